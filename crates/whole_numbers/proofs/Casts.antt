@@ -1,0 +1,9 @@
+-- A number of the program that went to bits and is read again.
+use Rattle.std.proofs.Common.{◌≡◌, ℤ, to_z, of_z}
+use mir.Val.{SFits}
+use mir.Syntax.{w128}
+use Rattle.std.proofs.lemmas.Int.{to_z-of_z}
+
+-- a number that fits is read as it was
+pub plain : {z : ℤ} → SFits w128 z → to_z w128 (of_z w128 z) ≡ z
+plain {z} f = to_z-of_z w128 z f

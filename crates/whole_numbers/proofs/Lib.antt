@@ -1,0 +1,9 @@
+pub mod Integers
+pub mod Ring
+pub mod Quoting
+pub mod Quote
+pub mod Certificates
+pub mod Products
+pub mod Divisions
+pub mod Roots
+pub mod Casts

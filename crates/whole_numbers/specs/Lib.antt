@@ -1,0 +1,4 @@
+pub mod Algebra
+pub mod Rounding
+pub mod Corners
+pub mod Root
