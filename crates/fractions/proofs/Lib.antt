@@ -1,0 +1,11 @@
+pub mod Laws
+pub mod Ratios
+pub mod AbsoluteValues
+pub mod Inverses
+pub mod StrictOrder
+pub mod Powers
+pub mod Ring
+pub mod Quote
+pub mod Certificates
+pub mod Near
+pub mod Floors
