@@ -1,0 +1,6 @@
+pub mod Constants
+pub mod Decimal
+pub mod Level
+pub mod Root
+pub mod Usable
+pub mod PointVerdict

@@ -1,0 +1,15 @@
+//! Plain data of the predictor, and the definitions that its contracts cite: exact, in fractions.
+//!
+//! `specs/` has the definitions, one subject a file. The functions of `laws` are empty: their contracts
+//! state what is proved of the definitions.
+#![tactic(auto)]
+
+mod decimal;
+mod fault;
+mod file_no;
+mod laws;
+
+pub use decimal::{Angle, Dec};
+pub use fault::{OutOfMemory, Refusal, TextFault, TextWhy};
+pub use file_no::FileNo;
+pub use laws::{constants_are_those_of_their_sources, decimals_are_fractions, roots_hold_below};
