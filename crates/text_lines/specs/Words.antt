@@ -1,0 +1,26 @@
+-- The words of a line, which blanks part.
+use Rattle.std.specs.Prelude.{◌==◌, ◌||◌, ℕ, Bool, true, not, List, [], ◌∷◌, Option, Some, None, if◌then◌else◌}
+use Rattle.text_lines.specs.Lines.{Text, onto_first}
+
+abbrev pub is_blank : ℕ → Bool
+is_blank b = b == 32 || b == 9
+
+abbrev pub is_letter : ℕ → Bool
+is_letter b = not (is_blank b)
+
+-- no word goes on here
+abbrev pub begins_blank : Text → Bool
+begins_blank [] = true
+begins_blank (b ∷ bs) = is_blank b
+
+abbrev pub words_of : Text → List Text
+words_of [] = []
+words_of (b ∷ bs) =
+    if is_blank b then words_of bs
+    else (if begins_blank bs then (b ∷ []) ∷ words_of bs else onto_first b (words_of bs))
+
+-- the one word, where there is one
+abbrev pub only_of : List Text → Option Text
+only_of [] = None
+only_of (w ∷ []) = Some w
+only_of (w ∷ v ∷ vs) = None
