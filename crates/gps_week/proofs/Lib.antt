@@ -1,0 +1,5 @@
+pub mod CastLemmas
+pub mod DayLemmas
+pub mod InstantLemmas
+pub mod ReadingLemmas
+pub mod TextLemmas

@@ -1,0 +1,3 @@
+pub mod GpsTime
+pub mod TimeText
+pub mod Weeks
