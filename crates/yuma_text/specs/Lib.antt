@@ -1,0 +1,5 @@
+pub mod LineKinds
+pub mod Said
+pub mod Entries
+pub mod Yuma
+pub mod Answers
