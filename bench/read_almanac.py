@@ -1,0 +1,93 @@
+#!/usr/bin/env python3
+"""Counts the instructions that `raim` takes to read, judge and answer an almanac of 1 MiB.
+
+Wants valgrind and a built program (`./raim` builds it). For each kind of almanac it prints the
+instructions a byte, above those for an empty file, the most heap that it held at one time, and the
+exit status. Instructions are counted and not timed, so the figures are the same on every run.
+
+Usage: python3 bench/read_almanac.py
+"""
+import re
+import subprocess
+import sys
+import tempfile
+from pathlib import Path
+
+HERE = Path(__file__).resolve().parent.parent
+PROGRAM = HERE / "crates/raim_cli/out/raim_cli"
+EXAMPLE = (HERE / "examples/four-satellites.alm").read_bytes()
+LONGEST = 1_048_576
+MOST_INSTRUCTIONS = 150
+
+
+def padded(front, filler):
+    """The front, and filler up to the longest file."""
+    return front + (filler * LONGEST)[: LONGEST - len(front)]
+
+
+def long_values():
+    """32 records whose lines are all about as long."""
+    lines = EXAMPLE.split(b"\n\n")[0].split(b"\n")
+    room = LONGEST // 32 // 14 - 60
+    records = []
+    for prn in range(1, 33):
+        record = [
+            line if k in (1, 2) else line + b"x" * room for k, line in enumerate(lines)
+        ]
+        record[1] = b"ID: %02d" % prn
+        record[2] = b"Health: 063" if prn > 4 else b"Health: 000"
+        records.append(b"\n".join(record))
+    return b"\n".join(records) + b"\n"
+
+
+ALMANACS = {
+    "line feeds behind four satellites": padded(EXAMPLE, b"\n"),
+    "blank lines behind four satellites": padded(EXAMPLE, b" \t\r\n"),
+    "blanks behind four satellites": padded(EXAMPLE, b" "),
+    "32 records of long lines": long_values(),
+    "one line of stars": b"*" * LONGEST,
+    "one label of blanks": padded(b"*\n", b" i d"),
+    "all bytes": (bytes(range(256)) * LONGEST)[:LONGEST],
+    "one byte too many": padded(EXAMPLE, b"\n") + b"\n",
+}
+
+
+def run(path):
+    """The instructions, the most heap in KiB, and the status."""
+    words = [str(PROGRAM), "predict", "1414022400000", "1414022401000", str(path)]
+    counted = subprocess.run(
+        ["valgrind", "--tool=callgrind", "--callgrind-out-file=/dev/null", *words],
+        stdout=subprocess.DEVNULL, stderr=subprocess.PIPE, text=True, check=False,
+    )
+    found = re.search(r"Collected : (\d+)", counted.stderr)
+    if found is None:
+        sys.exit("no count from valgrind: " + counted.stderr[-500:])
+    with tempfile.NamedTemporaryFile() as heap:
+        subprocess.run(
+            ["valgrind", "--tool=massif", "--massif-out-file=" + heap.name, *words],
+            stdout=subprocess.DEVNULL, stderr=subprocess.DEVNULL, check=False,
+        )
+        held = re.findall(r"^mem_heap_B=(\d+)$", Path(heap.name).read_text(), re.M)
+    return int(found.group(1)), max(map(int, held)) // 1024, counted.returncode
+
+
+def main():
+    if not PROGRAM.exists():
+        sys.exit("build the program first: ./raim")
+    worst = 0.0
+    with tempfile.TemporaryDirectory() as folder:
+        path = Path(folder) / "almanac"
+        path.write_bytes(b"")
+        least, memory, _ = run(path)
+        print(f"{'empty file':36} {least:>12} instructions {memory:>6} KiB")
+        for name, content in ALMANACS.items():
+            path.write_bytes(content)
+            count, memory, status = run(path)
+            each = (count - least) / len(content)
+            worst = max(worst, each)
+            print(f"{name:36} {each:12.1f} a byte       {memory:>6} KiB  status {status}")
+    print(f"most: {worst:.1f} instructions a byte; the limit is {MOST_INSTRUCTIONS}")
+    return 0 if worst <= MOST_INSTRUCTIONS else 1
+
+
+sys.exit(main())

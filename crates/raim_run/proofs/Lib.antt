@@ -1,0 +1,4 @@
+pub mod ToldLemmas
+pub mod FewLemmas
+pub mod CauseLemmas
+pub mod GrowthLemmas
