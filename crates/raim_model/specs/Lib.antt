@@ -4,3 +4,4 @@ pub mod Level
 pub mod Root
 pub mod Usable
 pub mod PointVerdict
+pub mod Span

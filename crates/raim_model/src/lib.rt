@@ -4,12 +4,16 @@
 //! state what is proved of the definitions.
 #![tactic(auto)]
 
+mod almanac;
 mod decimal;
 mod fault;
 mod file_no;
 mod laws;
+mod span;
 
+pub use almanac::AlmRecord;
 pub use decimal::{Angle, Dec};
 pub use fault::{OutOfMemory, Refusal, TextFault, TextWhy};
 pub use file_no::FileNo;
 pub use laws::{constants_are_those_of_their_sources, decimals_are_fractions, roots_hold_below};
+pub use span::Span;

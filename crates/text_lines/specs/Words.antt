@@ -24,3 +24,21 @@ abbrev pub only_of : List Text → Option Text
 only_of [] = None
 only_of (w ∷ []) = Some w
 only_of (w ∷ v ∷ vs) = None
+
+abbrev pub with_first : Text → Option Text → Option (Text × Text)
+with_first w None = None
+with_first w (Some v) = Some (w, v)
+
+abbrev pub with_front : Text → Option (Text × Text) → Option (Text × Text × Text)
+with_front w None = None
+with_front w (Some p) = Some (w, p.0, p.1)
+
+-- the two words, where there are two
+abbrev pub pair_of : List Text → Option (Text × Text)
+pair_of [] = None
+pair_of (w ∷ ws) = with_first w (only_of ws)
+
+-- the three words, where there are three
+abbrev pub triple_of : List Text → Option (Text × Text × Text)
+triple_of [] = None
+triple_of (w ∷ ws) = with_front w (pair_of ws)

@@ -19,4 +19,4 @@ pub use label::{is_label, split_label};
 pub use laws::{a_text_has_one_cutting, a_text_has_one_reading};
 pub use line::next_line;
 pub use whole_number::{read_number, read_whole_number};
-pub use word::{next_word, only_word};
+pub use word::{next_word, only_word, three_words, two_words};

@@ -1,7 +1,7 @@
 // A line is cut at blanks.
 ghost use Rattle.std.specs.Prelude.{◌≡◌, ◌≤◌, ◌<◌, [], ◌∷◌, ◌↔◌, length, IfSome, IsNone, option_map};
 ghost use Rattle.std.specs.List.{prefix_len};
-ghost use Rattle.text_lines.specs.Words.{words_of, only_of, is_blank, is_letter};
+ghost use Rattle.text_lines.specs.Words.{words_of, only_of, pair_of, triple_of, is_blank, is_letter};
 
 pub(crate) fn blank(byte: u8) -> bool
     ensures { result ≡ is_blank byte }
@@ -43,4 +43,22 @@ pub fn only_word(line: &[u8]) -> Option<&[u8]>
         return None;
     }
     Some(word)
+}
+
+/// The words of a line that has two.
+pub fn two_words(line: &[u8]) -> Option<(&[u8], &[u8])>
+    ensures { option_map (λ p. (p.0.now, p.1.now)) result ≡ pair_of (words_of line.now) }
+{
+    let (first, rest) = next_word(line)?;
+    let second = only_word(rest)?;
+    Some((first, second))
+}
+
+/// The words of a line that has three.
+pub fn three_words(line: &[u8]) -> Option<(&[u8], &[u8], &[u8])>
+    ensures { option_map (λ p. (p.0.now, p.1.now, p.2.now)) result ≡ triple_of (words_of line.now) }
+{
+    let (first, rest) = next_word(line)?;
+    let (second, third) = two_words(rest)?;
+    Some((first, second, third))
 }

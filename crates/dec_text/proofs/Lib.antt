@@ -1,0 +1,14 @@
+pub mod BadBytes
+pub mod Bounds
+pub mod Canonical
+pub mod Counting
+pub mod Cuts
+pub mod Digits
+pub mod Ends
+pub mod Fractions
+pub mod Meaning
+pub mod Numbers
+pub mod Steps
+pub mod Tails
+pub mod Texts
+pub mod CompareLemmas
