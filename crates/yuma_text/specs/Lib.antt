@@ -3,3 +3,6 @@ pub mod Said
 pub mod Entries
 pub mod Yuma
 pub mod Answers
+pub mod Records
+pub mod RecordDrafts
+pub mod RecordAnswers

@@ -1,0 +1,45 @@
+// The lines of a whole almanac in their order.
+ghost use Rattle.std.specs.Prelude.{IfOk, IfErr};
+ghost use Rattle.raim_model.specs.Span.{IsFlight};
+ghost use Rattle.text_lines.specs.Lines.{lines_of};
+ghost use Rattle.yuma_text.specs.RecordAnswers.{SayRecords, RefuseRecords};
+
+use crate::record_draft::RecordDraft;
+use crate::record_entry::read_record_entry;
+use raim_model::{AlmRecord, Refusal, Span, TextFault};
+use std::alloc::Global;
+use text_lines::next_line;
+
+/// Reads a YUMA almanac for a flight: its records by rising PRN, with canonical decimals, angles in
+/// radians, and the time of applicability in milliseconds since the GPS epoch.
+///
+/// The week is resolved against the week of the flight's first millisecond, and the time of
+/// applicability lies within 90 days of the flight's first millisecond and of its end. A refusal names
+/// the line and the first test that refuses it: `Label`, `Number`, `Range`, `PrnTwice`, or `Short` at
+/// the end of the file, with the last line that is not blank.
+pub fn read_yuma(alloc: Global, text: &[u8], span: Span) -> Result<Vec<AlmRecord>, Refusal>
+    requires { IsFlight span }
+    ensures accepted { IfOk result (λ v. SayRecords span (lines_of text.now) v.items) }
+    ensures refused { IfErr result (RefuseRecords span (lines_of text.now)) }
+{
+    let mut draft = RecordDraft::new(alloc, span);
+    let mut rest = text;
+    while let Some((line, after)) = next_line(rest) {
+        match read_record_entry(&draft, line) {
+            Ok(entry) => {
+                let Ok(()) = draft.put(entry) else {
+                    return Err(Refusal::Memory);
+                };
+            }
+            Err(why) => {
+                let line = draft.lines.saturating_add(1);
+                return Err(Refusal::Text(TextFault { line, why }));
+            }
+        }
+        rest = after;
+    }
+    match draft.finish() {
+        Ok(records) => Ok(records),
+        Err(fault) => Err(Refusal::Text(fault)),
+    }
+}
