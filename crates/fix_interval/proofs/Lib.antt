@@ -1,0 +1,12 @@
+pub mod EndSums
+pub mod EndBounds
+pub mod EndProducts
+pub mod EndSquares
+pub mod EndQuotients
+pub mod EndRoots
+pub mod SmallProducts
+pub mod Newton
+pub mod LongDivision
+pub mod EndDecimals
+pub mod Powers
+pub mod CheckedProducts

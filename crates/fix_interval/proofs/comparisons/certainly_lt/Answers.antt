@@ -1,0 +1,7 @@
+use Rattle.std.proofs.Common.{arith}
+use Rattle.std.proofs.lemmas.Int.{ints}
+use Rattle.fix_interval.proofs.EndBounds.{strictly_below_encloses}
+use Rattle.fix_interval.proofs.comparisons.certainly_lt.Goals as goal
+
+pub returns-clause-encloses : goal.returns-clause-encloses
+returns-clause-encloses c h = strictly_below_encloses (omega (arith, ints))

@@ -1,0 +1,40 @@
+use Rattle.std.proofs.Common.{arith, rules, ◌∙◌, ◌≡◌, pos, ◌*ℤ◌, ◌^◌, to_z, of_z}
+use mir.Val.{SFits}
+use mir.Syntax.{w128}
+use Rattle.std.proofs.lemmas.Int.{ints, fits_signed_mul}
+use Rattle.whole_numbers.proofs.Casts.{plain}
+use Rattle.raim_model.specs.Decimal.{signed}
+use Rattle.fix_interval.specs.Quotients.{outward_of}
+use Rattle.fix_interval.specs.Decimals.{dec56_milli_of}
+use Rattle.fix_interval.proofs.EndSums.{same_ends}
+use Rattle.fix_interval.proofs.EndDecimals.{signed_abs, dec56_milli_encloses}
+use Rattle.fix_interval.proofs.Powers.{ten_positive, ten_small}
+use Rattle.fix_interval.proofs.decimals.dec56_milli.Goals as goal
+
+pub outward-requires : goal.outward-requires
+outward-requires c =
+    let raw : SFits w128 c.ten_to.result = search rules in
+    let ten : to_z w128 (of_z w128 c.ten_to.result) ≡ pos (10 ^ c.args.d.now.places) = plain raw ∙ c.ten_to.ensures in
+    let den : SFits w128 (pos (10 ^ c.args.d.now.places) *ℤ pos 1000) = fits_signed_mul w128 (pos (10 ^ c.args.d.now.places)) (pos 1000) (10 ^ 30) 1000 (ten_small c.args.d.now.places c.requires.few_places) (omega (arith, ints)) (omega arith) in
+    rw (ten, plain den) (omega (arith, ints, ten_positive c.args.d.now.places))
+
+pub returns-clause-exact : goal.returns-clause-exact
+unfolding dec56_milli_of outward_of
+returns-clause-exact c =
+    let raw : SFits w128 c.ten_to.result = search rules in
+    let ten : to_z w128 (of_z w128 c.ten_to.result) ≡ pos (10 ^ c.args.d.now.places) = plain raw ∙ c.ten_to.ensures in
+    let den : SFits w128 (pos (10 ^ c.args.d.now.places) *ℤ pos 1000) = fits_signed_mul w128 (pos (10 ^ c.args.d.now.places)) (pos 1000) (10 ^ 30) 1000 (ten_small c.args.d.now.places c.requires.few_places) (omega (arith, ints)) (omega arith) in
+    let raw_digits : SFits w128 c.signed_digits.result = search rules in
+    let digits : to_z w128 (of_z w128 c.signed_digits.result) ≡ signed c.args.d.now.neg c.args.d.now.digits = plain raw_digits ∙ c.signed_digits.ensures in
+    let num : SFits w128 (signed c.args.d.now.neg c.args.d.now.digits *ℤ pos (2 ^ 56)) = fits_signed_mul w128 (signed c.args.d.now.neg c.args.d.now.digits) (pos (2 ^ 56)) (10 ^ 18) (2 ^ 56) (omega (arith, c.requires.few_digits, signed_abs c.args.d.now.neg c.args.d.now.digits)) (omega (arith, ints)) (omega arith) in
+    same_ends (rw (ten, plain den, digits, plain num) at c.outward.ensures.lo) (rw (ten, plain den, digits, plain num) at c.outward.ensures.hi)
+
+pub returns-clause-encloses : goal.returns-clause-encloses
+returns-clause-encloses c = dec56_milli_encloses c.args.d.now (returns-clause-exact c)
+
+pub overflow_mul-ten_to : goal.overflow_mul-ten_to
+overflow_mul-ten_to c =
+    let raw : SFits w128 c.ten_to.result = search rules in
+    let ten : to_z w128 (of_z w128 c.ten_to.result) ≡ pos (10 ^ c.args.d.now.places) = plain raw ∙ c.ten_to.ensures in
+    let den : SFits w128 (pos (10 ^ c.args.d.now.places) *ℤ pos 1000) = fits_signed_mul w128 (pos (10 ^ c.args.d.now.places)) (pos 1000) (10 ^ 30) 1000 (ten_small c.args.d.now.places c.requires.few_places) (omega (arith, ints)) (omega arith) in
+    rw ten den

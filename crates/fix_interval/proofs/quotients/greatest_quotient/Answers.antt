@@ -1,0 +1,25 @@
+use Rattle.std.proofs.Common.{arith, rules, ap₂, sym, ◌∙◌}
+use mir.Val.{SFits}
+use mir.Syntax.{w128}
+use Rattle.std.proofs.lemmas.Int.{ints}
+use Rattle.std.specs.Int.RustNames.{unsigned_abs}
+use Rattle.whole_numbers.specs.Rounding.{ceil_of}
+use Rattle.whole_numbers.proofs.Casts.{plain}
+use Rattle.fix_interval.proofs.EndQuotients.{ceil-negative, ceil-not_negative}
+use Rattle.fix_interval.proofs.quotients.greatest_quotient.Goals as goal
+
+pub returns-then-z-lt0 : goal.returns-then-z-lt0
+returns-then-z-lt0 c =
+    let z : SFits w128 c.args.z = search rules in
+    let k : SFits w128 c.args.high = search rules in
+    let r : SFits w128 c.ceil_by.result = search rules in
+    plain r ∙ c.ceil_by.ensures ∙ ap₂ (λ z k. ceil_of z (unsigned_abs k)) (plain z) (plain k)
+    ∙ sym (ceil-negative c.args.z (unsigned_abs c.args.low) (unsigned_abs c.args.high) (omega (arith, ints)) (omega (arith, ints)) (omega (arith, ints)))
+
+pub returns-else-z-lt0 : goal.returns-else-z-lt0
+returns-else-z-lt0 c =
+    let z : SFits w128 c.args.z = search rules in
+    let k : SFits w128 c.args.low = search rules in
+    let r : SFits w128 c.ceil_by-else-z-lt0.result = search rules in
+    plain r ∙ c.ceil_by-else-z-lt0.ensures ∙ ap₂ (λ z k. ceil_of z (unsigned_abs k)) (plain z) (plain k)
+    ∙ sym (ceil-not_negative c.args.z (unsigned_abs c.args.low) (unsigned_abs c.args.high) (omega (arith, ints)) (omega (arith, ints)) (omega (arith, ints)))

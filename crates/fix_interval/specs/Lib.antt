@@ -1,0 +1,9 @@
+pub mod Ends
+pub mod Lies
+pub mod Sums
+pub mod Bounds
+pub mod Products
+pub mod Quotients
+pub mod Roots
+pub mod Intervals
+pub mod Decimals
