@@ -1,0 +1,4 @@
+pub mod LineKinds
+pub mod Sem
+pub mod Drafts
+pub mod Answers
