@@ -7,10 +7,10 @@ instructions a turn, the table's own cost included, beside those of a native pro
 
 Usage: python3 bench/intervals.py
 """
-import re
-import subprocess
 import sys
 from pathlib import Path
+
+from callgrind import count
 
 HERE = Path(__file__).resolve().parent.parent
 PROGRAM = HERE / "crates/interval_bench/out/interval_bench"
@@ -25,23 +25,14 @@ KINDS = {
 }
 
 
-def run(kind, turns):
-    """The instructions, and what is printed."""
-    done = subprocess.run(
-        ["valgrind", "--tool=callgrind", "--callgrind-out-file=/dev/null", str(PROGRAM), kind, str(turns)],
-        capture_output=True, text=True, check=True,
-    )
-    return int(re.search(r"Collected : (\d+)", done.stderr).group(1)), done.stdout.strip()
-
-
 def main():
     if not PROGRAM.exists():
         sys.exit("build it first: rt run in crates/interval_bench")
     status = 0
     for kind, (total, native) in KINDS.items():
-        count, printed = run(kind, TURNS)
-        least, _ = run(kind, 0)
-        each = (count - least) / TURNS
+        instructions, printed, _ = count([PROGRAM, kind, TURNS])
+        least, _, _ = count([PROGRAM, kind, 0])
+        each = (instructions - least) / TURNS
         good = printed == f"{kind} {TURNS} {total}" and each <= 1.5 * native
         status |= not good
         print(f"{kind:8} {each:8.1f} instructions a turn, native {native}{'' if good else '  TOO SLOW OR WRONG'}")

@@ -13,16 +13,12 @@ import sys
 import tempfile
 from pathlib import Path
 
+from callgrind import LONGEST, count, padded
+
 HERE = Path(__file__).resolve().parent.parent
 PROGRAM = HERE / "crates/raim_cli/out/raim_cli"
 EXAMPLE = (HERE / "examples/four-satellites.alm").read_bytes()
-LONGEST = 1_048_576
 MOST_INSTRUCTIONS = 150
-
-
-def padded(front, filler):
-    """The front, and filler up to the longest file."""
-    return front + (filler * LONGEST)[: LONGEST - len(front)]
 
 
 def long_values():
@@ -55,20 +51,14 @@ ALMANACS = {
 def run(path):
     """The instructions, the most heap in KiB, and the status."""
     words = [str(PROGRAM), "predict", "1414022400000", "1414022401000", str(path)]
-    counted = subprocess.run(
-        ["valgrind", "--tool=callgrind", "--callgrind-out-file=/dev/null", *words],
-        stdout=subprocess.DEVNULL, stderr=subprocess.PIPE, text=True, check=False,
-    )
-    found = re.search(r"Collected : (\d+)", counted.stderr)
-    if found is None:
-        sys.exit("no count from valgrind: " + counted.stderr[-500:])
+    instructions, _, status = count(words)
     with tempfile.NamedTemporaryFile() as heap:
         subprocess.run(
             ["valgrind", "--tool=massif", "--massif-out-file=" + heap.name, *words],
             stdout=subprocess.DEVNULL, stderr=subprocess.DEVNULL, check=False,
         )
         held = re.findall(r"^mem_heap_B=(\d+)$", Path(heap.name).read_text(), re.M)
-    return int(found.group(1)), max(map(int, held)) // 1024, counted.returncode
+    return instructions, max(map(int, held)) // 1024, status
 
 
 def main():
@@ -82,8 +72,8 @@ def main():
         print(f"{'empty file':36} {least:>12} instructions {memory:>6} KiB")
         for name, content in ALMANACS.items():
             path.write_bytes(content)
-            count, memory, status = run(path)
-            each = (count - least) / len(content)
+            instructions, memory, status = run(path)
+            each = (instructions - least) / len(content)
             worst = max(worst, each)
             print(f"{name:36} {each:12.1f} a byte       {memory:>6} KiB  status {status}")
     print(f"most: {worst:.1f} instructions a byte; the limit is {MOST_INSTRUCTIONS}")

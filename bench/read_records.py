@@ -6,25 +6,19 @@ program answers. Instructions are counted and not timed, so the figures are the 
 
 Usage: python3 bench/read_records.py
 """
-import re
-import subprocess
 import sys
 import tempfile
 from pathlib import Path
 
+from callgrind import LONGEST, count, padded
+
 HERE = Path(__file__).resolve().parent.parent
 PROGRAM = HERE / "crates/almanac_reader/out/almanac_reader"
-LONGEST = 1_048_576
 MOST_INSTRUCTIONS = 300
 YUMA = (HERE / "examples/four-satellites.alm").read_bytes()
 SEM = (HERE / "examples/four-satellites.al3").read_bytes()
 # The lines of a record in each form.
 LINES = {"yuma": YUMA.split(b"\n\n")[0].split(b"\n"), "sem": SEM.split(b"\n\n")[1].split(b"\n")}
-
-
-def padded(front, filler):
-    """The front, and filler up to the longest file."""
-    return front + (filler * LONGEST)[: LONGEST - len(front)]
 
 
 def yuma_of(longer):
@@ -101,18 +95,6 @@ ALMANACS = {
 }
 
 
-def run(form, path):
-    """The instructions, and what is printed behind the path."""
-    done = subprocess.run(
-        ["valgrind", "--tool=callgrind", "--callgrind-out-file=/dev/null", str(PROGRAM), form, path.name],
-        capture_output=True, text=True, check=False, cwd=path.parent,
-    )
-    found = re.search(r"Collected : (\d+)", done.stderr)
-    if found is None:
-        sys.exit("no count from valgrind: " + done.stderr[-500:])
-    return int(found.group(1)), done.stdout.splitlines()[0] if done.stdout else done.stderr[-200:]
-
-
 def main():
     if not PROGRAM.exists():
         sys.exit("build it first: rt run in crates/almanac_reader")
@@ -121,14 +103,14 @@ def main():
         path = Path(folder) / "almanac"
         for form, almanacs in ALMANACS.items():
             path.write_bytes(b"")
-            least, _ = run(form, path)
+            least, _, _ = count([PROGRAM, form, path.name], folder)
             for name, content in almanacs.items():
                 assert len(content) <= LONGEST, (name, len(content))
                 path.write_bytes(content)
-                count, answer = run(form, path)
-                each = (count - least) / len(content)
+                instructions, answer, _ = count([PROGRAM, form, path.name], folder)
+                each = (instructions - least) / len(content)
                 worst = max(worst, each)
-                print(f"{form:5}{name:36} {len(content):>9} bytes {each:8.1f} a byte   {answer}")
+                print(f"{form:5}{name:36} {len(content):>9} bytes {each:8.1f} a byte   {answer.splitlines()[0]}")
     print(f"most: {worst:.1f} instructions a byte; the limit is {MOST_INSTRUCTIONS}")
     return 0 if worst <= MOST_INSTRUCTIONS else 1
 
