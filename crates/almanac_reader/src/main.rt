@@ -37,7 +37,8 @@ fn print_count(rt: &HostRuntime, form: Form, path: &str) -> io::Result<()> {
 fn print_agreement(rt: &HostRuntime, yuma: &str, sem: &str) -> io::Result<()> {
     let of_yuma = records(rt, Form::Yuma, yuma)?;
     let of_sem = records(rt, Form::Sem, sem)?;
-    let word = if agree(of_yuma.as_slice(), of_sem.as_slice()) {
+    // An almanac that is read has a record, so two that are refused do not agree.
+    let word = if !of_yuma.is_empty() && agree(of_yuma.as_slice(), of_sem.as_slice()) {
         "agree"
     } else {
         "differ"
