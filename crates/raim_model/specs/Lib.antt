@@ -5,3 +5,6 @@ pub mod Root
 pub mod Usable
 pub mod PointVerdict
 pub mod Span
+pub mod Series
+pub mod Sine
+pub mod Kepler
