@@ -1,0 +1,3 @@
+pub mod Quarter
+pub mod SinCos
+pub mod Chains
