@@ -1,0 +1,6 @@
+use Rattle.sine_laws.specs.Chains.{nest_end}
+use Rattle.trig_enclose.proofs.nested.cosine_nest_low.Goals as goal
+
+pub returns-clause-value : goal.returns-clause-value
+unfolding nest_end
+returns-clause-value c = cc
