@@ -1,0 +1,9 @@
+pub mod Rises
+pub mod Halvings
+pub mod Rising
+pub mod Anomalies
+pub mod Wraps
+pub mod Widths
+pub mod Exists
+pub mod Row
+pub mod Means

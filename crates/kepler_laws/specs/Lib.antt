@@ -1,0 +1,2 @@
+pub mod Anomalies
+pub mod EccentricSine
