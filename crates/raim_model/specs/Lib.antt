@@ -8,3 +8,6 @@ pub mod Span
 pub mod Series
 pub mod Sine
 pub mod Kepler
+pub mod Runs
+pub mod Judgements
+pub mod Cuts

@@ -10,6 +10,7 @@ mod fault;
 mod file_no;
 mod laws;
 mod span;
+mod verdict;
 
 pub use almanac::AlmRecord;
 pub use decimal::{Angle, Dec};
@@ -17,3 +18,4 @@ pub use fault::{OutOfMemory, Refusal, TextFault, TextWhy};
 pub use file_no::FileNo;
 pub use laws::{constants_are_those_of_their_sources, decimals_are_fractions, roots_hold_below};
 pub use span::Span;
+pub use verdict::{Cmp, Piece, Run, SplitFault, Verdict, Why};
