@@ -1,36 +1,11 @@
 // The mean anomaly of one eccentric anomaly, an end at a time.
 
 ghost use Rattle.std.specs.Prelude.{◌≡◌, ◌≤◌, pos, neg_ℤ, ◌^◌, ◌≤ℤ◌, ◌*ℤ◌};
-ghost use Rattle.whole_numbers.specs.Rounding.{floor_of, ceil_of};
 ghost use Rattle.kepler_laws.specs.Anomalies.{mean_of};
 ghost use Rattle.kepler_bracket.specs.Eccentricities.{eccentricity_ends};
 
 use crate::eccentricity::Eccentricity;
-use trig_enclose::{sine_high, sine_low};
-
-#[inline(always)]
-fn product_down(s: i64, e: u64) -> i64
-    requires low { neg_ℤ (pos (2 ^ 38)) ≤ℤ s }
-    requires high { s ≤ℤ pos (2 ^ 38) }
-    requires small { e ≤ 2 ^ 31 }
-    ensures value { result ≡ floor_of (s *ℤ pos e) (2 ^ 38) }
-    ensures low { neg_ℤ (pos (2 ^ 38)) ≤ℤ result }
-    ensures high { result ≤ℤ pos (2 ^ 38) }
-{
-    ((s as i128 * e as i128) >> 38) as i64
-}
-
-#[inline(always)]
-fn product_up(s: i64, e: u64) -> i64
-    requires low { neg_ℤ (pos (2 ^ 38)) ≤ℤ s }
-    requires high { s ≤ℤ pos (2 ^ 38) }
-    requires small { e ≤ 2 ^ 31 }
-    ensures value { result ≡ ceil_of (s *ℤ pos e) (2 ^ 38) }
-    ensures low { neg_ℤ (pos (2 ^ 38)) ≤ℤ result }
-    ensures high { result ≤ℤ pos (2 ^ 38) }
-{
-    -product_down(-s, e)
-}
+use trig_enclose::{product_down, product_up, sine_high, sine_low};
 
 /// The upper end of k - eps sin k.
 #[inline(always)]

@@ -1,7 +1,6 @@
 // The sine and the cosine of at most an eighth of a turn, an end at a time.
 
 ghost use Rattle.std.specs.Prelude.{◌≡◌, ◌≤◌, pos, neg_ℤ, ◌^◌, ◌≤ℤ◌, ◌*ℤ◌, true, false};
-ghost use Rattle.whole_numbers.specs.Rounding.{floor_of, ceil_of};
 ghost use Rattle.fix_interval.specs.Ends.{IsInside};
 ghost use Rattle.sine_laws.specs.Quarter.{sine_of, cosine_of, sine_divisors, cosine_divisors, eighth_ends, full_ends};
 ghost use Rattle.sine_laws.specs.Chains.{nest_end, low_sine, high_sine, low_cosine, high_cosine};
@@ -9,36 +8,13 @@ ghost use Rattle.trig_enclose.specs.Shorts.{short_ends};
 
 use crate::nested::{cosine_nest_high, cosine_nest_low, sine_nest_high, sine_nest_low};
 use crate::pair::ShortPair;
+use crate::products::{product_down, product_up};
 use crate::radians::in_radians;
 use crate::short::{Fraction38, Short};
 use crate::square::square;
 
 /// 1 in units of 2^-38.
 const ONE: i64 = 274877906944;
-
-#[inline(always)]
-fn product_down(x: i64, h: u64) -> i64
-    requires low { neg_ℤ (pos (2 ^ 38)) ≤ℤ x }
-    requires high { x ≤ℤ pos (2 ^ 38) }
-    requires unit { h ≤ 2 ^ 38 }
-    ensures value { result ≡ floor_of (x *ℤ pos h) (2 ^ 38) }
-    ensures low { neg_ℤ (pos (2 ^ 38)) ≤ℤ result }
-    ensures high { result ≤ℤ pos (2 ^ 38) }
-{
-    ((x as i128 * h as i128) >> 38) as i64
-}
-
-#[inline(always)]
-fn product_up(x: i64, h: u64) -> i64
-    requires low { neg_ℤ (pos (2 ^ 38)) ≤ℤ x }
-    requires high { x ≤ℤ pos (2 ^ 38) }
-    requires unit { h ≤ 2 ^ 38 }
-    ensures value { result ≡ ceil_of (x *ℤ pos h) (2 ^ 38) }
-    ensures low { neg_ℤ (pos (2 ^ 38)) ≤ℤ result }
-    ensures high { result ≤ℤ pos (2 ^ 38) }
-{
-    -product_down(-x, h)
-}
 
 /// The lower end of the sine, where the radians begin at `x` and `y` is their square.
 #[inline(always)]

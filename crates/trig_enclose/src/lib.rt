@@ -10,6 +10,7 @@ mod eighth;
 mod nested;
 mod pair;
 mod points;
+mod products;
 mod quarters;
 mod radians;
 mod short;
@@ -19,4 +20,5 @@ mod tests;
 mod turns;
 
 pub use points::{sine_high, sine_low};
+pub use products::{product_down, product_up};
 pub use turns::sin_cos;

@@ -1,7 +1,7 @@
 use Rattle.std.proofs.Common.{arith}
 use Rattle.std.proofs.lemmas.Grind.{common_steps}
 use Rattle.sine_laws.proofs.Ends.{product_small}
-use Rattle.trig_enclose.proofs.eighth.product_down.Goals as goal
+use Rattle.trig_enclose.proofs.products.product_down.Goals as goal
 
 pub returns-clause-value : goal.returns-clause-value
 returns-clause-value c = grind (arith, common_steps)
