@@ -5,21 +5,21 @@ use Rattle.std.proofs.lemmas.Int.{ints}
 use Rattle.std.proofs.lemmas.List.{take_rest}
 use Rattle.raim_model.specs.declared.Verdict.{Verdict}
 use Rattle.raim_model.specs.Judgements.{judgements}
-use Rattle.raim_model.specs.Cuts.{IsTime, AreCutsFrom, AreCuts, first_cut, last_cut, last_from, judgements_from, judgements_of_all}
+use Rattle.raim_model.specs.Cuts.{IsCutTime, AreCutsFrom, AreCuts, first_cut, last_cut, last_from, judgements_from, judgements_of_all}
 
 -- the last cut is not before the first
 pub last_from-reach : (rule : ℤ → ℤ → Type 0) (first : ℤ) (cuts : List ℤ) → AreCutsFrom rule first cuts → first ≤ℤ last_from first cuts
 last_from-reach rule first [] h = omega (arith, ints)
 last_from-reach rule first (next ∷ cuts) h = let rest = last_from-reach rule next cuts h.3 in let lt : first <ℤ next = h.1 in omega (arith, ints)
 
-first_is_time : (rule : ℤ → ℤ → Type 0) (first : ℤ) (cuts : List ℤ) → AreCutsFrom rule first cuts → IsTime first
+first_is_time : (rule : ℤ → ℤ → Type 0) (first : ℤ) (cuts : List ℤ) → AreCutsFrom rule first cuts → IsCutTime first
 first_is_time rule first [] h = h
 first_is_time rule first (next ∷ cuts) h = h.0
 
 -- what is known at the next cut, from what is known of the cuts that are left
 pub record NextCut (rule : ℤ → ℤ → Type 0) (w : ℤ → ℤ → Verdict) (first next : ℤ) (left later : List ℤ) : Type 0 where
-  pub first_time : IsTime first
-  pub next_time : IsTime next
+  pub first_time : IsCutTime first
+  pub next_time : IsCutTime next
   pub rises : first <ℤ next
   pub ruled : rule first (next -ℤ pos 1)
   pub cuts : AreCutsFrom rule next later
@@ -51,7 +51,7 @@ next_cut rule w first cuts i h are =
 pub record FirstCut (rule : ℤ → ℤ → Type 0) (w : ℤ → ℤ → Verdict) (cuts : List ℤ) (first : ℤ) (left : List ℤ) : Type 0 where
   pub cuts_left : AreCutsFrom rule first left
   pub first_is : first ≡ first_cut cuts
-  pub first_time : IsTime first
+  pub first_time : IsCutTime first
   pub last : last_from first left ≡ last_cut cuts
   pub judgements_are : judgements_from w first left ≡ judgements_of_all w cuts
 

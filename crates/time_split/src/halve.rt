@@ -2,7 +2,7 @@
 ghost use Rattle.std.specs.Prelude.{◌≡◌, ℕ, ◌+◌, ◌≤◌, ℤ, pos, ◌+ℤ◌, ◌-ℤ◌, ◌≤ℤ◌, ◌<ℤ◌, OnOk, IfOk, IfErr};
 ghost use Rattle.raim_model.specs.Runs.{HasRuns, HasTooManyRuns, OverflowsFirst, FaultComes};
 ghost use Rattle.raim_model.specs.Judgements.{middle_of, judgements};
-ghost use Rattle.raim_model.specs.Cuts.{IsTime, AreCuts, first_cut, last_cut, judgements_of_all};
+ghost use Rattle.raim_model.specs.Cuts.{IsCutTime, AreCuts, first_cut, last_cut, judgements_of_all};
 ghost use Rattle.time_split.specs.Faults.{FailsExactly};
 ghost use Rattle.time_split.specs.Growth.{RunsGrow, FaultFollows};
 
@@ -16,8 +16,8 @@ use step_counter::Steps;
 /// The last millisecond of a piece's first half.
 fn middle(first: i64, last: i64) -> i64
     requires ordered { first <ℤ last }
-    requires first { IsTime first }
-    requires last { IsTime last }
+    requires first { IsCutTime first }
+    requires last { IsCutTime last }
     ensures value { result ≡ middle_of first last }
     ensures low { first ≤ℤ result }
     ensures high { result <ℤ last }
@@ -34,8 +34,8 @@ fn split_piece<J: Judge, L: Ledger>(
     steps: &mut Steps<L>,
 ) -> Result<(), SplitFault>
     requires ordered { first ≤ℤ last }
-    requires first { IsTime first }
-    requires last { IsTime last }
+    requires first { IsCutTime first }
+    requires last { IsCutTime last }
     requires rule { J.rule judge.now first last }
     ensures ok { OnOk result (RunsGrow (J.verdict judge.now) first (last +ℤ pos 1) runs.old.items runs.new.items) }
     ensures fault { IfErr result (FaultFollows (J.verdict judge.now) first (last +ℤ pos 1) runs.old.items) }

@@ -2,7 +2,7 @@
 ghost use Rattle.std.specs.Prelude.{◌≡◌, ℤ, pos, ◌-ℤ◌, ◌≤ℤ◌, ◌<ℤ◌, OnOk, IfOk, IfErr};
 ghost use Rattle.raim_model.specs.Runs.{HasRuns, FaultComes};
 ghost use Rattle.time_split.specs.Growth.{RunsGrow, FaultFollows};
-ghost use Rattle.raim_model.specs.Cuts.{IsTime, AreCuts, first_cut, last_cut};
+ghost use Rattle.raim_model.specs.Cuts.{IsCutTime, AreCuts, first_cut, last_cut};
 
 use crate::judge::Judge;
 use crate::place::place;
@@ -20,8 +20,8 @@ fn place_each<J: Judge, L: Ledger>(
     steps: &mut Steps<L>,
 ) -> Result<(), SplitFault>
     requires ordered { first <ℤ end }
-    requires first { IsTime first }
-    requires end { IsTime end }
+    requires first { IsCutTime first }
+    requires end { IsCutTime end }
     requires rule { J.rule judge.now first (end -ℤ pos 1) }
     ensures ok { OnOk result (RunsGrow (J.verdict judge.now) first end runs.old.items runs.new.items) }
     ensures fault { IfErr result (FaultFollows (J.verdict judge.now) first end runs.old.items) }
