@@ -11,3 +11,5 @@ pub mod Kepler
 pub mod Runs
 pub mod Judgements
 pub mod Cuts
+pub mod Ranges
+pub mod Route

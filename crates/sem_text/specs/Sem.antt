@@ -9,8 +9,7 @@ use Rattle.raim_model.specs.declared.Span.{Span}
 use Rattle.raim_model.specs.Decimal.{decimal}
 use Rattle.text_lines.specs.Lines.{Text}
 use Rattle.text_lines.specs.Words.{words_of, only_of, pair_of, triple_of}
-use Rattle.text_lines.specs.WholeNumber.{whole_of}
-use Rattle.text_lines.specs.Fields.{◌>>=◌, unless, or_else, whole_in}
+use Rattle.text_lines.specs.Fields.{◌>>=◌, unless, or_else, any_whole, whole_in}
 use Rattle.text_lines.specs.Reading.{Format, last_solid_line}
 use Rattle.dec_text.specs.DecimalFields.{any_decimal, in_bounds}
 use Rattle.almanac_fields.specs.Prns.{fresh_prn_of}
@@ -92,10 +91,6 @@ said_behind entries = fold said_next said_first entries
 abbrev pub records_in : List Entry → List AlmRecord
 records_in entries = (said_behind entries).records
 
--- any whole number
-abbrev pub whole : Text → Result ℕ TextWhy
-whole word = or_else why.Number (whole_of word)
-
 -- 1 to 32 records; a name may follow
 abbrev pub count_of : Text → Result Entry TextWhy
 count_of word = do
@@ -105,7 +100,7 @@ count_of word = do
 -- both are numbers, and then each is in its range
 abbrev pub week_and_time_of : (first end : ℕ) → Text → Text → Result Entry TextWhy
 week_and_time_of first end w t = do
-  week ← whole w
+  week ← any_whole w
   seconds ← any_decimal t
   unless (nat_lt 9999 week) why.Range (do
     time ← whole_ms_of seconds
@@ -134,7 +129,7 @@ prn_of said records words =
 abbrev pub unused_of : Entry → List Text → Result Entry TextWhy
 unused_of e words = do
   word ← or_else why.Label (only_of words)
-  n ← whole word
+  n ← any_whole word
   Ok e
 
 -- three numbers

@@ -10,7 +10,7 @@ use crate::line_kind::LineKind;
 use almanac_fields::{fresh_prn, time_of_applicability, whole_ms};
 use dec_text::{check_between, read_dec_value};
 use raim_model::{Dec, TextWhy};
-use text_lines::{next_word, only_word, read_whole_in, read_whole_number, three_words, two_words};
+use text_lines::{next_word, only_word, read_whole, read_whole_in, three_words, two_words};
 
 // What a line says.
 #[derive(Clone, Copy, Debug, PartialEq, Eq)]
@@ -42,15 +42,6 @@ const fn decimal(neg: bool, digits: u64, places: u8) -> Dec
     }
 }
 
-fn whole(word: &[u8]) -> Result<u64, TextWhy>
-    ensures { result ≡ sem.whole word.now }
-{
-    match read_whole_number(word) {
-        Some(value) => Ok(value),
-        None => Err(TextWhy::Number),
-    }
-}
-
 fn count(word: &[u8]) -> Result<Entry, TextWhy>
     ensures { result ≡ sem.count_of word.now }
 {
@@ -62,7 +53,7 @@ fn count(word: &[u8]) -> Result<Entry, TextWhy>
 fn week_and_time(draft: &Draft, week: &[u8], time: &[u8]) -> Result<Entry, TextWhy>
     ensures { result ≡ sem.week_and_time_of draft.now.flight.first draft.now.flight.end week.now time.now }
 {
-    let week = whole(week)?;
+    let week = read_whole(week)?;
     let seconds = read_dec_value(time)?;
     if week > 9999 {
         return Err(TextWhy::Range);
@@ -110,7 +101,7 @@ fn unused(line: &[u8], entry: Entry) -> Result<Entry, TextWhy>
 {
     match only_word(line) {
         Some(word) => {
-            whole(word)?;
+            read_whole(word)?;
             Ok(entry)
         }
         None => Err(TextWhy::Label),

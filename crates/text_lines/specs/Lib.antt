@@ -6,3 +6,5 @@ pub mod Labels
 pub mod Fields
 pub mod Laws
 pub mod Reading
+pub mod LineCounts
+pub mod Refusals

@@ -9,14 +9,16 @@ mod field;
 mod label;
 mod laws;
 mod line;
+mod line_count;
 #[cfg(test)]
 mod tests;
 mod whole_number;
 mod word;
 
-pub use field::{read_labelled, read_whole_in, read_whole_value};
+pub use field::{check_in, read_labelled, read_whole, read_whole_in, read_whole_value};
 pub use label::{is_label, split_label};
 pub use laws::{a_text_has_one_cutting, a_text_has_one_reading};
 pub use line::next_line;
+pub use line_count::LineCount;
 pub use whole_number::{read_number, read_whole_number};
-pub use word::{next_word, only_word, three_words, two_words};
+pub use word::{four_words, next_word, only_word, three_words, two_words};
