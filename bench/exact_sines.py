@@ -1,6 +1,7 @@
 """Sines, cosines and Kepler's equation over intervals as docs/DEFINITIONS.md writes them, in whole numbers of any size:
 what the tables of cases of `trig_enclose` and `kepler_bracket` are worked out by. Nothing here is taken from the
-program; it goes the written way, forty halvings an end.
+program; it goes the written way, forty halvings an end. Run by itself, it prints the lines that `sine_bench 10000` and
+`kepler_bench 300` must print.
 
 An interval is a pair (lo, hi) in units of 2^-38.
 """
@@ -93,3 +94,21 @@ def ecc_sin_cos(m, eps):
         return (FULL, FULL)
     wraps = range((m[0] + 2**37) // ONE, (m[1] + 2**37) // ONE + 1)
     return hull([of_wrap(m, eps, w) for w in wraps])
+
+
+def bench_line(word, turns, call):
+    total = 0
+    for i in range(turns):
+        (s, c) = call(i, i * 2654435761 % 2**40 - 2**39)
+        total = (31 * total + s[0] + 3 * s[1] + 5 * c[0] + 7 * c[1]) % (2**61 - 1)
+    return f"{word} {turns} {total}"
+
+
+def of_eccentricity(i, low):
+    e = i * 2654435761 % 1367130551
+    return ecc_sin_cos((low, low + i % 4), (e, e + 1))
+
+
+if __name__ == "__main__":
+    print(bench_line("sine", 10_000, lambda i, low: sin_cos((low, low + i % 4))))
+    print(bench_line("kepler", 300, of_eccentricity))
