@@ -23,7 +23,10 @@ fn from(lo: i128, wider: u32) -> Iv
 fn mean_anomaly(i: u32) -> Iv
     ensures { IsWithin result (2 ^ 60) }
 {
-    from(((i as u64 * 2654435761) % 1099511627776) as i128 - 549755813888, i % 4)
+    from(
+        ((i as u64 * 2654435761) % 1099511627776) as i128 - 549755813888,
+        i % 4,
+    )
 }
 
 /// An eccentricity over 2 pi, a unit wide.

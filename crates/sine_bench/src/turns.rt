@@ -22,7 +22,10 @@ fn from(lo: i128, wider: u32) -> Iv
 fn turns(i: u32) -> Iv
     ensures { IsWithin result (2 ^ 60) }
 {
-    from(((i as u64 * 2654435761) % 1099511627776) as i128 - 549755813888, i % 4)
+    from(
+        ((i as u64 * 2654435761) % 1099511627776) as i128 - 549755813888,
+        i % 4,
+    )
 }
 
 /// The sum over N turns, modulo 2^61 - 1: each adds the lower end of the sine, three times its upper one, five times the
