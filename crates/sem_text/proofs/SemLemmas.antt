@@ -1,9 +1,9 @@
 -- One more line of an almanac.
-use Rattle.std.proofs.Common.{◌≡◌, ◌+◌, ◌-◌, ◌^◌, min, List, [], ◌∷◌, ◌++◌, length, sym, ap, ◌∙◌, arith, unsigned_abs, length-append}
+use Rattle.std.proofs.Common.{◌≡◌, List, [], ◌∷◌, ◌++◌, sym, ap, ◌∙◌, unsigned_abs}
 use Rattle.std.proofs.lemmas.List.Sums.{fold-append}
 use Rattle.raim_model.specs.declared.Span.{Span}
 use Rattle.text_lines.specs.Lines.{Text}
-use Rattle.text_lines.proofs.ReadingMore.{last_solid_line-append}
+use Rattle.text_lines.proofs.ReadingMore.{counts_more}
 use Rattle.sem_text.specs.declared.entry.Entry.{Entry}
 use Rattle.sem_text.specs.declared.draft.Draft.{Draft}
 use Rattle.sem_text.specs.Sem.{Said, entry_of, said_first, said_behind, said_next, is_blank}
@@ -15,15 +15,12 @@ said_behind-append entries e = fold-append said_next said_first entries (e ∷ [
 
 -- the draft after one more line
 pub draft_more : (span : Span) (old new : Draft) (entries : List Entry) (e : Entry) → IsDraft span old entries → IsAfter old e new → IsDraft span new (entries ++ e ∷ [])
-draft_more span old new entries e d a =
-    let lines : new.lines ≡ min (length entries + 1) (2 ^ 32 - 1) = omega (arith, a.lines, d.lines) in
-    record {
-      first = a.first ∙ d.first;
-      end = a.end ∙ d.end;
-      said = a.said ∙ ap (λ (s : Said). said_next s e) d.said ∙ sym (said_behind-append entries e);
-      lines = lines ∙ ap (λ n. min n (2 ^ 32 - 1)) (sym (length-append entries (e ∷ [])));
-      solid = a.solid ∙ last_solid_line-append is_blank entries e old.solid new.lines d.solid lines;
-    }
+draft_more span old new entries e d a = record {
+  first = a.first ∙ d.first;
+  end = a.end ∙ d.end;
+  said = a.said ∙ ap (λ (s : Said). said_next s e) d.said ∙ sym (said_behind-append entries e);
+  count = counts_more is_blank entries e old.count new.count d.count a.count;
+}
 
 -- what the draft says of a line is what the format says
 pub says_of_draft : (span : Span) (draft : Draft) (entries : List Entry) (line : Text) → IsDraft span draft entries

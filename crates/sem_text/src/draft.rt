@@ -10,6 +10,7 @@ use crate::line_kind::LineKind;
 use almanac_fields::Flight;
 use raim_model::{AlmRecord, Angle, Dec, Span, TextFault, TextWhy};
 use std::alloc::{AllocError, Global};
+use text_lines::LineCount;
 
 const ZERO: Dec = Dec {
     neg: false,
@@ -18,7 +19,7 @@ const ZERO: Dec = Dec {
 };
 
 // The flight, the line that is expected next, how many records there are to be, the record that is
-// current, the whole records, how many lines there were, and the last of them that was not blank.
+// current, the whole records, and the count of the lines.
 #[derive(Drop)]
 pub(crate) struct Draft {
     pub(crate) flight: Flight,
@@ -26,8 +27,7 @@ pub(crate) struct Draft {
     pub(crate) said: u8,
     pub(crate) current: AlmRecord,
     pub(crate) records: Vec<AlmRecord>,
-    pub(crate) lines: u32,
-    pub(crate) solid: u32,
+    pub(crate) count: LineCount,
 }
 
 impl Draft {
@@ -52,8 +52,7 @@ impl Draft {
                 m0: Angle::Semi(ZERO),
             },
             records: Vec::new(alloc),
-            lines: 0,
-            solid: 0,
+            count: LineCount::new(),
         }
     }
 
@@ -61,9 +60,11 @@ impl Draft {
     pub(crate) fn put(&mut self, entry: Entry) -> Result<(), AllocError>
         ensures { OnOk result (IsAfter self.old entry self.new) }
     {
-        self.lines = self.lines.saturating_add(1);
         match entry {
-            Entry::Blank => return Ok(()),
+            Entry::Blank => {
+                self.count.skip();
+                return Ok(());
+            }
             Entry::Unused => {}
             Entry::Count(count) => self.said = count,
             Entry::Week(toa) => self.current.toa_ms = toa,
@@ -83,7 +84,7 @@ impl Draft {
             Entry::Configuration => self.records.push(self.current)?,
         }
         self.kind = self.kind.next();
-        self.solid = self.lines;
+        self.count.pass();
         Ok(())
     }
 
@@ -92,9 +93,9 @@ impl Draft {
         ensures ends { IsOk result → end_at self.kind self.said self.records.items ≡ None }
         ensures same { IfOk result (λ v. IsPermutation self.records.items v.items) }
         ensures rising { IfOk result (λ v. IsSortedByKey (λ r. r.prn) nat_cmp v.items) }
-        ensures fault { IfErr result (λ f. (f.line ≡ self.solid) × (end_at self.kind self.said self.records.items ≡ Some f.why)) }
+        ensures fault { IfErr result (λ f. (f.line ≡ self.count.solid) × (end_at self.kind self.said self.records.items ≡ Some f.why)) }
     {
-        let line = self.solid;
+        let line = self.count.solid;
         let LineKind::Prn = self.kind else {
             let why = TextWhy::Short;
             return Err(TextFault { line, why });

@@ -2,7 +2,9 @@
 ghost use Rattle.std.specs.Prelude.{IfOk, IfErr};
 ghost use Rattle.raim_model.specs.Span.{IsFlight};
 ghost use Rattle.text_lines.specs.Lines.{lines_of};
-ghost use Rattle.sem_text.specs.Answers.{SayRecords, RefuseRecords};
+ghost use Rattle.text_lines.specs.Refusals.{IsRefused};
+ghost use Rattle.sem_text.specs.Sem.{sem_records};
+ghost use Rattle.sem_text.specs.Answers.{SayRecords};
 
 use crate::draft::Draft;
 use crate::entry::read_entry;
@@ -22,7 +24,7 @@ use text_lines::next_line;
 pub fn read_sem(alloc: Global, text: &[u8], span: Span) -> Result<Vec<AlmRecord>, Refusal>
     requires { IsFlight span }
     ensures accepted { IfOk result (λ v. SayRecords span (lines_of text.now) v.items) }
-    ensures refused { IfErr result (RefuseRecords span (lines_of text.now)) }
+    ensures refused { IfErr result (IsRefused (sem_records span) (lines_of text.now)) }
 {
     let mut draft = Draft::new(alloc, span);
     let mut rest = text;
@@ -34,7 +36,7 @@ pub fn read_sem(alloc: Global, text: &[u8], span: Span) -> Result<Vec<AlmRecord>
                 };
             }
             Err(why) => {
-                let line = draft.lines.saturating_add(1);
+                let line = draft.count.next();
                 return Err(Refusal::Text(TextFault { line, why }));
             }
         }

@@ -1,9 +1,9 @@
 -- One more line of an almanac.
-use Rattle.std.proofs.Common.{◌≡◌, ◌+◌, ◌-◌, ◌^◌, min, ℕ, List, [], ◌∷◌, ◌++◌, length, refl, sym, ap, ◌∙◌, arith, cond, unsigned_abs, length-append}
+use Rattle.std.proofs.Common.{◌≡◌, List, [], ◌∷◌, ◌++◌, sym, ap, ◌∙◌, unsigned_abs}
 use Rattle.std.proofs.lemmas.List.Sums.{fold-append}
 use Rattle.raim_model.specs.declared.Span.{Span}
 use Rattle.text_lines.specs.Lines.{Text}
-use Rattle.text_lines.proofs.ReadingMore.{last_solid_line-append}
+use Rattle.text_lines.proofs.ReadingMore.{counts_more}
 use Rattle.yuma_text.specs.declared.record_entry.RecordEntry.{RecordEntry}
 use Rattle.yuma_text.specs.declared.record_draft.RecordDraft.{RecordDraft}
 use Rattle.yuma_text.specs.Records.{RecordsSaid, record_entry_of, records_first, said_behind, said_next, is_blank_line}
@@ -15,15 +15,12 @@ said_behind-append entries e = fold-append said_next records_first entries (e �
 
 -- the draft after one more line
 pub draft_more : (span : Span) (old new : RecordDraft) (entries : List RecordEntry) (e : RecordEntry) → IsDraft span old entries → IsAfter old e new → IsDraft span new (entries ++ e ∷ [])
-draft_more span old new entries e d a =
-    let lines : new.lines ≡ min (length entries + 1) (2 ^ 32 - 1) = omega (arith, a.lines, d.lines) in
-    record {
-      first = a.first ∙ d.first;
-      end = a.end ∙ d.end;
-      said = a.said ∙ ap (λ (s : RecordsSaid). said_next s e) d.said ∙ sym (said_behind-append entries e);
-      lines = lines ∙ ap (λ n. min n (2 ^ 32 - 1)) (sym (length-append entries (e ∷ [])));
-      solid = a.solid ∙ last_solid_line-append is_blank_line entries e old.solid new.lines d.solid lines;
-    }
+draft_more span old new entries e d a = record {
+  first = a.first ∙ d.first;
+  end = a.end ∙ d.end;
+  said = a.said ∙ ap (λ (s : RecordsSaid). said_next s e) d.said ∙ sym (said_behind-append entries e);
+  count = counts_more is_blank_line entries e old.count new.count d.count a.count;
+}
 
 -- what the draft says of a line is what the format says
 pub says_of_draft : (span : Span) (draft : RecordDraft) (entries : List RecordEntry) (line : Text) → IsDraft span draft entries

@@ -10,6 +10,7 @@ use crate::record_entry::RecordEntry;
 use almanac_fields::Flight;
 use raim_model::{AlmRecord, Angle, Dec, Span, TextFault, TextWhy};
 use std::alloc::{AllocError, Global};
+use text_lines::LineCount;
 
 const ZERO: Dec = Dec {
     neg: false,
@@ -18,7 +19,7 @@ const ZERO: Dec = Dec {
 };
 
 // The flight, the line that is expected next, the record that is current with its time in the week, the
-// whole records, how many lines there were, and the last of them that was not blank.
+// whole records, and the count of the lines.
 #[derive(Drop)]
 pub(crate) struct RecordDraft {
     pub(crate) flight: Flight,
@@ -26,8 +27,7 @@ pub(crate) struct RecordDraft {
     pub(crate) current: AlmRecord,
     pub(crate) time: u32,
     pub(crate) records: Vec<AlmRecord>,
-    pub(crate) lines: u32,
-    pub(crate) solid: u32,
+    pub(crate) count: LineCount,
 }
 
 impl RecordDraft {
@@ -52,8 +52,7 @@ impl RecordDraft {
             },
             time: 0,
             records: Vec::new(alloc),
-            lines: 0,
-            solid: 0,
+            count: LineCount::new(),
         }
     }
 
@@ -61,9 +60,11 @@ impl RecordDraft {
     pub(crate) fn put(&mut self, entry: RecordEntry) -> Result<(), AllocError>
         ensures { OnOk result (IsAfter self.old entry self.new) }
     {
-        self.lines = self.lines.saturating_add(1);
         match entry {
-            RecordEntry::Blank => return Ok(()),
+            RecordEntry::Blank => {
+                self.count.skip();
+                return Ok(());
+            }
             RecordEntry::Title | RecordEntry::Clock => {}
             RecordEntry::Id(prn) => self.current.prn = prn,
             RecordEntry::Health(health) => self.current.health = health,
@@ -81,7 +82,7 @@ impl RecordDraft {
             }
         }
         self.kind = self.kind.next();
-        self.solid = self.lines;
+        self.count.pass();
         Ok(())
     }
 
@@ -90,10 +91,10 @@ impl RecordDraft {
         ensures ends { IsOk result → end_at self.kind self.records.items ≡ None }
         ensures same { IfOk result (λ v. IsPermutation self.records.items v.items) }
         ensures rising { IfOk result (λ v. IsSortedByKey (λ r. r.prn) nat_cmp v.items) }
-        ensures fault { IfErr result (λ f. (f.line ≡ self.solid) × (end_at self.kind self.records.items ≡ Some f.why)) }
+        ensures fault { IfErr result (λ f. (f.line ≡ self.count.solid) × (end_at self.kind self.records.items ≡ Some f.why)) }
     {
         let short = TextFault {
-            line: self.solid,
+            line: self.count.solid,
             why: TextWhy::Short,
         };
         match self.kind {

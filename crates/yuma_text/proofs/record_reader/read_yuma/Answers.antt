@@ -1,8 +1,7 @@
-use Rattle.std.proofs.Common.{◌≡◌, ◌∙◌, ◌++◌, ◌∷◌, [], List, length, refl, ap, sym, subst, append_assoc, append-nil, inl, inr}
-use Rattle.text_lines.specs.Lines.{Text, lines_of}
-use Rattle.text_lines.specs.Reading.{Reads}
+use Rattle.std.proofs.Common.{◌∙◌, ◌++◌, ◌∷◌, [], refl, ap, sym, append_assoc}
+use Rattle.text_lines.specs.Lines.{lines_of}
 use Rattle.text_lines.proofs.ReadingMore.{reads_none, reads_more}
-use Rattle.yuma_text.specs.Records.{RecordsSaid, yuma_records, end_at}
+use Rattle.yuma_text.specs.Records.{yuma_records}
 use Rattle.yuma_text.proofs.RecordLemmas.{draft_more, says_of_draft}
 use Rattle.yuma_text.proofs.record_reader.read_yuma.Goals as goal
 
