@@ -1,5 +1,5 @@
 -- The constants of the model, in megametres (Mm), milliseconds and turns.
-use Rattle.std.specs.Prelude.{pos, ◌^◌}
+use Rattle.std.specs.Prelude.{ℕ, pos, ◌^◌}
 use Rattle.fractions.specs.Fraction.{Fraction, ratio, whole, ◌-ᶠ◌, ◌*ᶠ◌}
 use Rattle.fractions.specs.Inverse.{◌/ᶠ◌}
 
@@ -30,3 +30,19 @@ eccentricity_squared = flattening *ᶠ (whole (pos 2) -ᶠ flattening)
 -- the least determinant of a geometry that counts as regular, 2^-10: this project's own
 abbrev pub least_determinant : Fraction
 least_determinant = ratio (pos 1) 1024
+
+-- the milliseconds of a week of GPS, and of a day
+abbrev pub week_ms : ℕ
+week_ms = 604800000
+
+abbrev pub day_ms : ℕ
+day_ms = 86400000
+
+-- the milliseconds from the GPS epoch to the end of the year 9999 of UTC, with the most leap seconds that limits may
+-- give, 255: no time that is read is later
+abbrev pub latest_ms : ℕ
+latest_ms = 253086591000000
+
+-- the farthest that a cut of time may be from the GPS epoch, in milliseconds: so differences of two cuts fit 64 bits
+abbrev pub farthest_cut_ms : ℕ
+farthest_cut_ms = 2 ^ 61

@@ -1,6 +1,11 @@
 // Laws of the definitions, each the contract of a function that does nothing.
-ghost use Rattle.std.specs.Prelude.{◌≡◌, ◌≤◌, ◌+◌, ◌*◌, ◌^◌, ℕ, Bool, true, false, pos};
+ghost use Rattle.std.specs.Prelude.{◌≡◌, ◌≤◌, ◌+◌, ◌*◌, ◌^◌, ℕ, ℤ, List, Bool, true, false, pos};
 ghost use Rattle.fractions.specs.Fraction.{Fraction, ratio, whole, ◌-ᶠ◌, ◌*ᶠ◌};
+ghost use Rattle.raim_model.specs.declared.almanac.AlmRecord.{AlmRecord};
+ghost use Rattle.raim_model.specs.declared.span.Span.{Span};
+ghost use Rattle.raim_model.specs.declared.verdict.Verdict.{Verdict};
+ghost use Rattle.raim_model.specs.AlmanacRanges.{AreRecords};
+ghost use Rattle.raim_model.specs.Solution.{Case, HasVerdict, HasVerticalVerdict};
 ghost use Rattle.raim_model.specs.Constants.{tau, mu, earth_rotation, earth_axis, flattening, eccentricity_squared};
 ghost use Rattle.raim_model.specs.Decimal.{decimal, value_of};
 ghost use Rattle.raim_model.specs.Level.{Level};
