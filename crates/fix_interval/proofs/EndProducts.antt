@@ -1,9 +1,10 @@
 -- Products of ends, wide and rounded outward: they enclose those of fractions, and are isotone.
-use Rattle.std.specs.Prelude.{◌≡◌, ℕ, ℤ, ◌+◌, ◌*◌, ◌^◌, ◌<◌, refl, ◌*ℤ◌, ◌≤ℤ◌}
+use Rattle.std.specs.Prelude.{◌≡◌, ℕ, ℤ, ◌+◌, ◌*◌, ◌^◌, ◌<◌, refl, ◌*ℤ◌, ◌≤ℤ◌, Bool, true, false, cond}
 use Rattle.std.proofs.Common.{arith, ap, sym, ◌∙◌, subst}
 use Rattle.std.proofs.lemmas.Int.{ints, clamps}
 use Rattle.std.proofs.lemmas.Nat.{pow_pos, pow-add}
 use Rattle.std.specs.Int.{int_min, int_max}
+use lib.Signed.{lt_z}
 use Rattle.whole_numbers.specs.Corners.{least_corner, greatest_corner}
 use Rattle.whole_numbers.specs.Rounding.{floor_of, ceil_of}
 use Rattle.whole_numbers.proofs.Products.{least_corner-least, greatest_corner-greatest}
@@ -124,3 +125,20 @@ scale_int_encloses {a} {r} first last e s x t p h k = subst (λ n. Lies r n (x *
 pub scale_int_isotone : {a r : Ends} (first last : ℤ) → r ≡ scale_int_of a first last → first ≤ℤ last → (c d : Ends) → IsInside a c → d.lo ≤ℤ first → last ≤ℤ d.hi → IsInside r (scale_int_of c d.lo d.hi)
 unfolding scale_int_of
 scale_int_isotone {a} {r} first last e o c d p h k = mul_wide_isotone e c record { lo = d.lo; hi = d.hi } p record { low = h; ordered = o; high = k }
+
+-- ---- of two numbers
+-- what holds of two numbers holds of the smaller
+pub pick_min : (P : ℤ → Type 0) (y z : ℤ) → P y → P z → P (int_min y z)
+pick_min P y z p q = choose (lt_z z y)
+  where
+    choose : (t : Bool) → P (cond t z y)
+    choose true = q
+    choose false = p
+
+-- and of the greater
+pub pick_max : (P : ℤ → Type 0) (y z : ℤ) → P y → P z → P (int_max y z)
+pick_max P y z p q = choose (lt_z z y)
+  where
+    choose : (t : Bool) → P (cond t y z)
+    choose true = p
+    choose false = q

@@ -130,3 +130,15 @@ sqr_isotone {a} {r} e c p = narrow76_isotone e (sqr_wide_of c) (sqr_wide_isotone
 -- the least square is at most the greatest
 pub sqr_wide_ordered : (a : Ends) → a.lo ≤ℤ a.hi → (sqr_wide_of a).lo ≤ℤ (sqr_wide_of a).hi
 sqr_wide_ordered a o = (sqr_wide_isotone refl a record { low = ≤ℤ_refl a.lo; ordered = o; high = ≤ℤ_refl a.hi }).ordered
+
+-- a number that is at most both squares of ends, and at most 0 where the ends hold 0, is at most the least square
+pub below_least_square : (a : Ends) (m : ℤ) → a.lo ≤ℤ a.hi → (t u : Bool) → le_z a.lo (pos 0) ≡ t → le_z (pos 0) a.hi ≡ u → (pos 0 ≤ℤ a.hi → a.lo ≤ℤ pos 0 → m ≤ℤ pos 0) → m ≤ℤ (a.lo *ℤ a.lo) → m ≤ℤ (a.hi *ℤ a.hi) → m ≤ℤ cond (t && u) (pos 0) (int_min (a.lo *ℤ a.lo) (a.hi *ℤ a.hi))
+below_least_square a m o true true d e z p q = z (omega (arith, ints)) (omega (arith, ints))
+below_least_square a m o true false d e z p q = at_min (a.lo *ℤ a.lo) (a.hi *ℤ a.hi) p q
+  where
+    at_min : (y z : ℤ) → m ≤ℤ y → m ≤ℤ z → m ≤ℤ int_min y z
+    at_min y z h k = omega (arith, ints, clamps)
+below_least_square a m o false u d e z p q = at_min (a.lo *ℤ a.lo) (a.hi *ℤ a.hi) p q
+  where
+    at_min : (y z : ℤ) → m ≤ℤ y → m ≤ℤ z → m ≤ℤ int_min y z
+    at_min y z h k = omega (arith, ints, clamps)

@@ -1,13 +1,13 @@
 -- Sums and differences of ends enclose those of fractions, and are isotone.
-use Rattle.std.specs.Prelude.{◌≡◌, ℕ, ℤ, ◌^◌, ◌-ℤ◌, neg_ℤ}
+use Rattle.std.specs.Prelude.{◌≡◌, ℕ, ℤ, pos, ◌^◌, ◌-ℤ◌, neg_ℤ, refl}
 use Rattle.std.proofs.Common.{arith, ap, sym, ◌∙◌}
 use Rattle.std.proofs.lemmas.Int.{ints}
-use Rattle.fractions.specs.Fraction.{Fraction, ratio, ◌+ᶠ◌, ◌-ᶠ◌}
-use Rattle.fractions.proofs.Laws.{+ᶠ_mono, -ᶠ_mono}
-use Rattle.fractions.proofs.Ratios.{ratio-add, neg-ratio}
+use Rattle.fractions.specs.Fraction.{Fraction, ratio, zeroᶠ, neg, ◌+ᶠ◌, ◌-ᶠ◌}
+use Rattle.fractions.proofs.Laws.{+ᶠ_mono, -ᶠ_mono, zero-+ᶠ, ≤ᶠ_refl}
+use Rattle.fractions.proofs.Ratios.{ratio-add, ratio-zero, neg-ratio}
 use Rattle.fix_interval.specs.Ends.{Ends, IsInside}
 use Rattle.fix_interval.specs.Lies.{Lies}
-use Rattle.fix_interval.specs.Sums.{add_of, sub_of}
+use Rattle.fix_interval.specs.Sums.{add_of, sub_of, neg_of}
 
 -- ends are equal where both are
 pub same_ends : {a b : Ends} → a.lo ≡ b.lo → a.hi ≡ b.hi → a ≡ b
@@ -42,3 +42,16 @@ sub_encloses {a} {b} {r} e s x y p q = rw e record {
 pub sub_isotone : {a b r : Ends} → r ≡ sub_of a b → (c d : Ends) → IsInside a c → IsInside b d → IsInside r (sub_of c d)
 unfolding sub_of
 sub_isotone {a} {b} {r} e c d p q = rw e record { low = omega (arith, ints); ordered = omega (arith, ints); high = omega (arith, ints) }
+
+-- ---- negatives
+-- the negative of a choice lies in the negatives
+pub neg_encloses : (a : Ends) (x : Fraction) → Lies a 38 x → Lies (neg_of a) 38 (neg x)
+unfolding neg_of
+neg_encloses a x l =
+    let z : Lies record { lo = pos 0; hi = pos 0 } 38 zeroᶠ = record { low = rw (ratio-zero (2 ^ 38)) (≤ᶠ_refl zeroᶠ); high = rw (ratio-zero (2 ^ 38)) (≤ᶠ_refl zeroᶠ) } in
+    rw (zero-+ᶠ (neg x)) at (sub_encloses {r = neg_of a} refl 38 zeroᶠ x z l)
+
+-- wider ends have wider negatives
+pub neg_isotone : (a c : Ends) → IsInside a c → IsInside (neg_of a) (neg_of c)
+unfolding neg_of sub_of
+neg_isotone a c p = record { low = omega (arith, ints); ordered = omega (arith, ints); high = omega (arith, ints) }

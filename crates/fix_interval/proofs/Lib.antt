@@ -10,3 +10,10 @@ pub mod LongDivision
 pub mod EndDecimals
 pub mod Powers
 pub mod CheckedProducts
+pub mod EndInsides
+pub mod EndScales
+pub mod EndWidths
+pub mod EndPairs
+pub mod EndVectors
+pub mod EndCorners
+pub mod UnitProducts

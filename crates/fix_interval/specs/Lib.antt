@@ -1,4 +1,5 @@
 pub mod Ends
+pub mod Ranges
 pub mod Lies
 pub mod Sums
 pub mod Bounds
@@ -7,3 +8,6 @@ pub mod Quotients
 pub mod Roots
 pub mod Intervals
 pub mod Decimals
+pub mod Pairs
+pub mod Vectors
+pub mod Searches

@@ -22,3 +22,7 @@ div_of a b = record {
   lo = int_min (floor_of (a.lo *ℤ pos (2 ^ 38)) (unsigned_abs b.lo)) (floor_of (a.lo *ℤ pos (2 ^ 38)) (unsigned_abs b.hi));
   hi = int_max (ceil_of (a.hi *ℤ pos (2 ^ 38)) (unsigned_abs b.lo)) (ceil_of (a.hi *ℤ pos (2 ^ 38)) (unsigned_abs b.hi));
 }
+
+-- a times p / q, rounded outward
+unfoldable pub scale_of : Ends → ℕ → ℕ → Ends
+scale_of a p q = record { lo = floor_of (a.lo *ℤ pos p) q; hi = ceil_of (a.hi *ℤ pos p) q }

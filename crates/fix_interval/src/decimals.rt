@@ -10,7 +10,8 @@ ghost use Rattle.fix_interval.specs.Decimals.{from_dec_of, from_dec_over_of, dec
 ghost use Rattle.fix_interval.specs.Intervals.{ends, IsWithin};
 
 use crate::interval::Iv;
-use crate::quotients::{UNITS, outward};
+use crate::points::UNITS_IN_ONE;
+use crate::quotients::outward;
 use raim_model::Dec;
 use whole_numbers::rounding::floor_by;
 
@@ -55,7 +56,10 @@ impl Iv {
         ensures exact { ends result ≡ from_dec_over_of d.now k }
         ensures encloses { Lies (ends result) 38 (value_of d.now /ᶠ whole (pos k)) }
     {
-        outward(signed_digits(d) * UNITS, ten_to(d.places) * k as i128)
+        outward(
+            signed_digits(d) * UNITS_IN_ONE,
+            ten_to(d.places) * k as i128,
+        )
     }
 }
 

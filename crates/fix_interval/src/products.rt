@@ -4,6 +4,7 @@ ghost use Rattle.std.specs.Prelude.{◌≡◌, ℕ, pos, ◌+◌, ◌^◌, ◌*�
 ghost use Rattle.std.specs.Int.{int_min};
 ghost use Rattle.std.specs.Option.{option_map};
 ghost use lib.Signed.{le_z};
+ghost use Rattle.whole_numbers.specs.Corners.{least_corner, greatest_corner};
 ghost use Rattle.fractions.specs.Fraction.{Fraction, whole, ◌*ᶠ◌, ◌≤ᶠ◌};
 ghost use Rattle.fix_interval.specs.Ends.{Ends, IsInside};
 ghost use Rattle.fix_interval.specs.Lies.{Lies};
@@ -12,6 +13,36 @@ ghost use Rattle.fix_interval.specs.Intervals.{ends, mag_of, IsWithin};
 
 use crate::interval::Iv;
 use whole_numbers::rounding::{ceil_shift, floor_shift};
+
+/// The least of the four products of ends, which the signs of the ends tell.
+#[inline(always)]
+fn least_product(a: Iv, b: Iv) -> i128
+    requires { mag_of a * mag_of b ≤ 2 ^ 126 }
+    ensures { result ≡ least_corner a.lo a.hi b.lo b.hi }
+{
+    if a.lo >= 0 {
+        if b.lo >= 0 { a.lo * b.lo } else { a.hi * b.lo }
+    } else if a.hi <= 0 {
+        if b.hi >= 0 { a.lo * b.hi } else { a.hi * b.hi }
+    } else {
+        (a.lo * b.hi).min(a.hi * b.lo)
+    }
+}
+
+/// The greatest of the four products of ends.
+#[inline(always)]
+fn greatest_product(a: Iv, b: Iv) -> i128
+    requires { mag_of a * mag_of b ≤ 2 ^ 126 }
+    ensures { result ≡ greatest_corner a.lo a.hi b.lo b.hi }
+{
+    if a.lo >= 0 {
+        if b.hi >= 0 { a.hi * b.hi } else { a.lo * b.hi }
+    } else if a.hi <= 0 {
+        if b.lo >= 0 { a.hi * b.lo } else { a.lo * b.lo }
+    } else {
+        (a.lo * b.lo).max(a.hi * b.hi)
+    }
+}
 
 /// The product at the sum of the two scales: two intervals in units of 2^-38 have one in units of 2^-76.
 pub fn mul_wide(a: Iv, b: Iv) -> Iv
@@ -22,13 +53,9 @@ pub fn mul_wide(a: Iv, b: Iv) -> Iv
     ensures isotone { (c d : Ends) → IsInside (ends a) c → IsInside (ends b) d
         → IsInside (ends result) (mul_wide_of c d) }
 {
-    let low_low = a.lo * b.lo;
-    let low_high = a.lo * b.hi;
-    let high_low = a.hi * b.lo;
-    let high_high = a.hi * b.hi;
     Iv {
-        lo: low_low.min(low_high).min(high_low.min(high_high)),
-        hi: low_low.max(low_high).max(high_low.max(high_high)),
+        lo: least_product(a, b),
+        hi: greatest_product(a, b),
     }
 }
 

@@ -11,10 +11,8 @@ ghost use Rattle.fix_interval.specs.Quotients.{div_int_of, from_ratio_of, div_of
 ghost use Rattle.fix_interval.specs.Intervals.{ends, IsWithin};
 
 use crate::interval::Iv;
+use crate::points::UNITS_IN_ONE;
 use whole_numbers::rounding::{ceil_by, floor_by};
-
-/// 2^38: 1 in units of 2^-38.
-pub(crate) const UNITS: i128 = 274877906944;
 
 /// An interval over a whole number, at its scale.
 pub fn div_int(a: Iv, k: i128) -> Iv
@@ -51,7 +49,7 @@ impl Iv {
         ensures exact { ends result ≡ from_ratio_of num (unsigned_abs den) }
         ensures encloses { Lies (ends result) 38 (ratio num (unsigned_abs den)) }
     {
-        outward(num * UNITS, den)
+        outward(num * UNITS_IN_ONE, den)
     }
 }
 
@@ -94,7 +92,7 @@ pub fn div(a: Iv, b: Iv) -> Iv
         → IsInside (ends result) (div_of c d) }
 {
     Iv {
-        lo: least_quotient(a.lo * UNITS, b.lo, b.hi),
-        hi: greatest_quotient(a.hi * UNITS, b.lo, b.hi),
+        lo: least_quotient(a.lo * UNITS_IN_ONE, b.lo, b.hi),
+        hi: greatest_quotient(a.hi * UNITS_IN_ONE, b.lo, b.hi),
     }
 }

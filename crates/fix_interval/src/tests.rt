@@ -7,6 +7,7 @@ use crate::products::{checked_mul, mul, mul_wide, narrow76, scale_int, sqr, sqr_
 use crate::quotients::{div, div_int};
 use crate::roots::sqrt;
 use crate::sums::{add, sub};
+use crate::unit_products::{product_down, product_up};
 use raim_model::Dec;
 
 fn ends(a: Iv) -> (i128, i128) {
@@ -217,4 +218,12 @@ fn decimals_of_the_greatest_size(rt: HostRuntime) {
         ends(dec76(&turn)),
         (-97951163599178139034765, -97951163599178139034764)
     );
+}
+
+#[test]
+fn products_with_a_half(rt: HostRuntime) {
+    let half = 137438953472;
+    assert_eq!(rt; (product_down(3, half), product_up(3, half)), (1, 2));
+    assert_eq!(rt; (product_down(-3, half), product_up(-3, half)), (-2, -1));
+    assert_eq!(rt; (product_down(4, half), product_up(4, half)), (2, 2));
 }

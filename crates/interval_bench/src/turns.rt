@@ -4,10 +4,10 @@ ghost use Rattle.std.specs.Prelude.{◌≡◌, pos, neg_ℤ, ◌^◌, ◌≤◌,
 ghost use Rattle.fix_interval.specs.Intervals.{mag_of};
 ghost use Rattle.raim_model.specs.Decimal.{IsCanonical};
 
-use fix_interval::interval::Iv;
-use fix_interval::products::{mul, sqr};
-use fix_interval::quotients::div;
-use fix_interval::roots::sqrt;
+use fix_interval::Iv;
+use fix_interval::{mul, sqr};
+use fix_interval::div;
+use fix_interval::sqrt;
 use raim_model::Dec;
 
 /// A kind of call.

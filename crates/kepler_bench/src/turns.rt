@@ -3,7 +3,7 @@
 ghost use Rattle.std.specs.Prelude.{◌≡◌, pos, neg_ℤ, ◌^◌, ◌≤◌, ◌<◌, ◌+ℤ◌, ◌≤ℤ◌};
 ghost use Rattle.fix_interval.specs.Intervals.{IsWithin};
 
-use fix_interval::interval::Iv;
+use fix_interval::Iv;
 use kepler_bracket::ecc_sin_cos;
 
 /// From `lo` to `wider` units above it.

@@ -1,7 +1,7 @@
 -- How contracts see an eccentricity of this crate, as plain ends.
 use Rattle.fix_interval.specs.Ends.{Ends}
-use Rattle.sine_laws.specs.Chains.{naturals}
-use Rattle.kepler_bracket.specs.declared.eccentricity.Eccentricity.{Eccentricity}
+use Rattle.fix_interval.specs.Ranges.{from_to}
+use Rattle.kepler_bracket.specs.declared.eccentricity.EccentricityInTurns.{EccentricityInTurns}
 
-abbrev pub eccentricity_ends : Eccentricity → Ends
-eccentricity_ends e = naturals e.lo e.hi
+abbrev pub eccentricity_ends : EccentricityInTurns → Ends
+eccentricity_ends e = from_to e.lo e.hi

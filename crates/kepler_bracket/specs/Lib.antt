@@ -1,1 +1,2 @@
 pub mod Eccentricities
+pub mod Turns

@@ -3,7 +3,7 @@
 // definitions are written, by forty halvings an end.
 
 use crate::wraps::ecc_sin_cos;
-use fix_interval::interval::Iv;
+use fix_interval::Iv;
 
 #[derive(Clone, Copy)]
 struct Case {

@@ -7,19 +7,19 @@ ghost use Rattle.raim_model.specs.Kepler.{SolvesKepler};
 ghost use Rattle.fix_interval.specs.Ends.{Ends, IsInside};
 ghost use Rattle.fix_interval.specs.Lies.{Lies};
 ghost use Rattle.fix_interval.specs.Intervals.{ends, IsWithin};
-ghost use Rattle.kepler_laws.specs.Anomalies.{IsEccentric, IsHalf, anomalies_of, bracket, is_below, is_above, IsGreatest, IsLeast};
+ghost use Rattle.kepler_laws.specs.Anomalies.{IsEccentricityInTurns, IsWithinHalfTurn, anomalies_of, bracket, is_below, is_above, IsGreatest, IsLeast};
 ghost use Rattle.kepler_bracket.specs.Eccentricities.{eccentricity_ends};
 
-use crate::eccentricity::Eccentricity;
+use crate::eccentricity::EccentricityInTurns;
 use crate::search::{greatest_below, least_above};
-use fix_interval::interval::Iv;
+use fix_interval::Iv;
 
-fn eccentricity_of(eps: Iv) -> Eccentricity
+fn eccentricity_of(eps: Iv) -> EccentricityInTurns
     requires low { pos 0 ≤ℤ eps.lo }
     requires high { eps.hi ≤ℤ pos (2 ^ 31) }
     ensures { eccentricity_ends result ≡ ends eps }
 {
-    Eccentricity {
+    EccentricityInTurns {
         lo: eps.lo as u64,
         hi: eps.hi as u64,
     }
@@ -36,8 +36,8 @@ pub fn anomalies(m: Iv, eps: Iv) -> Iv
     ensures lower { IsGreatest (is_below (ends eps) m.lo) (neg_ℤ bracket) bracket (result.lo +ℤ pos 1) }
     // a unit inside its upper end is the least number whose mean anomaly is certainly at least m's upper end
     ensures upper { IsLeast (is_above (ends eps) m.hi) (neg_ℤ bracket) bracket (result.hi -ℤ pos 1) }
-    ensures encloses { (N : Level) (M e E : Fraction) → Lies (ends m) 38 M → Lies (ends eps) 38 e → SolvesKepler N M e E → Lies (ends result) 38 E }
-    ensures isotone { (d f : Ends) → IsHalf d → IsEccentric f → IsInside (ends m) d → IsInside (ends eps) f → IsInside (ends result) (anomalies_of f d) }
+    ensures encloses { (N : Level) (M ε E : Fraction) → Lies (ends m) 38 M → Lies (ends eps) 38 ε → SolvesKepler N M ε E → Lies (ends result) 38 E }
+    ensures isotone { (d f : Ends) → IsWithinHalfTurn d → IsEccentricityInTurns f → IsInside (ends m) d → IsInside (ends eps) f → IsInside (ends result) (anomalies_of f d) }
     ensures small { IsWithin result (2 ^ 40) }
 {
     let eccentricity = eccentricity_of(eps);

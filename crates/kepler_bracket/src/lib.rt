@@ -6,11 +6,13 @@
 //! where the equation, taken as exact, has its solution.
 #![tactic(auto)]
 
+mod anomaly;
 #[cfg(test)]
 mod cases;
 mod eccentricity;
 mod ends;
 mod mean;
+mod mean_tests;
 mod search;
 #[cfg(test)]
 mod tests;

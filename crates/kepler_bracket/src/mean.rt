@@ -4,12 +4,13 @@ ghost use Rattle.std.specs.Prelude.{◌≡◌, ◌≤◌, pos, neg_ℤ, ◌^◌,
 ghost use Rattle.kepler_laws.specs.Anomalies.{mean_of};
 ghost use Rattle.kepler_bracket.specs.Eccentricities.{eccentricity_ends};
 
-use crate::eccentricity::Eccentricity;
-use trig_enclose::{product_down, product_up, sine_high, sine_low};
+use crate::eccentricity::EccentricityInTurns;
+use fix_interval::{product_down, product_up};
+use trig_enclose::{sine_high, sine_low};
 
 /// The upper end of k - eps sin k.
 #[inline(always)]
-pub(crate) fn mean_high(eps: Eccentricity, k: i64) -> i64
+pub(crate) fn mean_high(eps: EccentricityInTurns, k: i64) -> i64
     requires low { neg_ℤ (pos (2 ^ 40)) ≤ℤ k }
     requires high { k ≤ℤ pos (2 ^ 40) }
     ensures value { result ≡ (mean_of (eccentricity_ends eps) k).hi }
@@ -26,7 +27,7 @@ pub(crate) fn mean_high(eps: Eccentricity, k: i64) -> i64
 
 /// The lower end of k - eps sin k.
 #[inline(always)]
-pub(crate) fn mean_low(eps: Eccentricity, k: i64) -> i64
+pub(crate) fn mean_low(eps: EccentricityInTurns, k: i64) -> i64
     requires low { neg_ℤ (pos (2 ^ 40)) ≤ℤ k }
     requires high { k ≤ℤ pos (2 ^ 40) }
     ensures value { result ≡ (mean_of (eccentricity_ends eps) k).lo }

@@ -2,9 +2,9 @@
 
 use crate::ends::anomalies;
 use crate::wraps::ecc_sin_cos;
-use fix_interval::interval::Iv;
+use fix_interval::Iv;
 
-const ONE: i128 = 274877906944;
+const ONE: i128 = fix_interval::UNITS_IN_ONE;
 
 fn ends(parts: (Iv, Iv)) -> ((i128, i128), (i128, i128)) {
     ((parts.0.lo, parts.0.hi), (parts.1.lo, parts.1.hi))

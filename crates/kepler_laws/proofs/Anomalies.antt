@@ -17,9 +17,9 @@ use Rattle.fix_interval.specs.Lies.{Lies}
 use Rattle.fix_interval.proofs.EndProducts.{mul_isotone}
 use Rattle.fix_interval.proofs.EndSums.{sub_isotone}
 use Rattle.series_laws.proofs.Pairs.{has_pair}
-use Rattle.sine_laws.proofs.Close.{unit}
-use Rattle.sine_laws.proofs.Encloses.{sin_cos_isotone}
-use Rattle.kepler_laws.specs.Anomalies.{mean_of, is_below, is_above, lower_end, upper_end, bracket, anomalies_of, IsGreatest, IsLeast, IsEccentric, IsHalf}
+use Rattle.trig_laws.proofs.Close.{unit}
+use Rattle.trig_laws.proofs.Encloses.{sin_cos_isotone}
+use Rattle.kepler_laws.specs.Anomalies.{mean_of, is_below, is_above, lower_end, upper_end, bracket, anomalies_of, IsGreatest, IsLeast, IsEccentricityInTurns, IsWithinHalfTurn}
 use Rattle.kepler_laws.proofs.Halvings.{lower_last, upper_first, is_greatest, is_least}
 use Rattle.kepler_laws.proofs.Rises.{IsEccentricity, rises, mean_encloses, below_solutions, above_solutions, gap52}
 use Rattle.kepler_laws.proofs.Rising.{below_falls, above_rises, mean_near}
@@ -50,7 +50,7 @@ pub bracket_size : bracket ≤ℤ (neg_ℤ bracket +ℤ pos (2 ^ 40))
 bracket_size = omega (arith, ints)
 
 -- a unit inside the lower end is the greatest number whose mean anomaly is certainly at most m
-pub lower_is : (eps m : Ends) → IsEccentric eps → IsHalf m → IsGreatest (is_below eps m.lo) (neg_ℤ bracket) bracket (lower_end (is_below eps m.lo) 40 (neg_ℤ bracket) bracket)
+pub lower_is : (eps m : Ends) → IsEccentricityInTurns eps → IsWithinHalfTurn m → IsGreatest (is_below eps m.lo) (neg_ℤ bracket) bracket (lower_end (is_below eps m.lo) 40 (neg_ℤ bracket) bracket)
 lower_is eps m i h =
     let a = mean_near eps (neg_ℤ bracket) i in
     let b = mean_near eps bracket i in
@@ -62,7 +62,7 @@ lower_is eps m i h =
     is_greatest _ _ _ _ (below_falls eps m.lo i) (lower_last (is_below eps m.lo) 40 (neg_ℤ bracket) bracket (passes _ _ first) (fails _ _ last) bracket_order bracket_size)
 
 -- a unit inside the upper end is the least number whose mean anomaly is certainly at least m
-pub upper_is : (eps m : Ends) → IsEccentric eps → IsHalf m → IsLeast (is_above eps m.hi) (neg_ℤ bracket) bracket (upper_end (is_above eps m.hi) 40 (neg_ℤ bracket) bracket)
+pub upper_is : (eps m : Ends) → IsEccentricityInTurns eps → IsWithinHalfTurn m → IsLeast (is_above eps m.hi) (neg_ℤ bracket) bracket (upper_end (is_above eps m.hi) 40 (neg_ℤ bracket) bracket)
 upper_is eps m i h =
     let a = mean_near eps (neg_ℤ bracket) i in
     let b = mean_near eps bracket i in
@@ -74,14 +74,14 @@ upper_is eps m i h =
     is_least _ _ _ _ (above_rises eps m.hi i) (upper_first (is_above eps m.hi) 40 (neg_ℤ bracket) bracket (fails _ _ first) (passes _ _ last) bracket_order bracket_size)
 
 -- ---- they enclose
-pub eccentricity : (eps : Ends) (e : Fraction) → IsEccentric eps → Lies eps 38 e → IsEccentricity e
+pub eccentricity : (eps : Ends) (e : Fraction) → IsEccentricityInTurns eps → Lies eps 38 e → IsEccentricity e
 eccentricity eps e i l = record {
   low = ≤ᶠ_trans (ratio_at_most (pos 0) eps.lo 1 (2 ^ 38) (lit≤ tt) (pow_pos 38) (omega (arith, ints, i.low))) l.low;
   high = ≤ᶠ_trans l.high (ratio_at_most eps.hi (pos 1) (2 ^ 38) 128 (pow_pos 38) (lit≤ tt) (omega (arith, ints, i.high)));
 }
 
 -- each solution lies between the ends, at each level
-pub anomalies_enclose : {eps m r : Ends} → r ≡ anomalies_of eps m → IsEccentric eps → IsHalf m → (N : Level) (M e E : Fraction) → Lies m 38 M → Lies eps 38 e → SolvesKepler N M e E → Lies r 38 E
+pub anomalies_enclose : {eps m r : Ends} → r ≡ anomalies_of eps m → IsEccentricityInTurns eps → IsWithinHalfTurn m → (N : Level) (M e E : Fraction) → Lies m 38 M → Lies eps 38 e → SolvesKepler N M e E → Lies r 38 E
 unfolding anomalies_of
 anomalies_enclose {eps} {m} {r} q i h N M e E l k p =
     let low = lower_is eps m i h in
@@ -101,7 +101,7 @@ mean_isotone eps c k p =
     sub_isotone refl _ _ at (mul_isotone refl c _ p (sin_cos_isotone refl _ at).sine)
 
 -- the mean anomalies of r and s, r's at most and s's at least the same number, are in order
-ends_order : (eps : Ends) (m : ℤ) (r s : ℤ) → IsEccentric eps → (mean_of eps r).hi ≤ℤ m → m ≤ℤ (mean_of eps s).lo → r ≤ℤ s
+ends_order : (eps : Ends) (m : ℤ) (r s : ℤ) → IsEccentricityInTurns eps → (mean_of eps r).hi ≤ℤ m → m ≤ℤ (mean_of eps s).lo → r ≤ℤ s
 ends_order eps m r s i h k = by_test (le_z r s) refl
   where
     level : Level
@@ -140,11 +140,11 @@ ends_order eps m r s i h k = by_test (le_z r s) refl
     by_test false e = absurd (impossible (omega (arith, ints)))
 
 -- wider mean anomalies and eccentricities give wider ends
-pub anomalies_isotone : {eps m r : Ends} → r ≡ anomalies_of eps m → (f c : Ends) → IsEccentric f → IsHalf c → IsInside eps f → IsInside m c → IsInside r (anomalies_of f c)
+pub anomalies_isotone : {eps m r : Ends} → r ≡ anomalies_of eps m → (f c : Ends) → IsEccentricityInTurns f → IsWithinHalfTurn c → IsInside eps f → IsInside m c → IsInside r (anomalies_of f c)
 unfolding anomalies_of
 anomalies_isotone {eps} {m} {r} q f c i h p k =
-    let j : IsEccentric eps = record { low = omega (arith, ints, p.low, i.low); ordered = p.ordered; high = omega (arith, ints, p.high, i.high) } in
-    let n : IsHalf m = record { low = omega (arith, ints, k.low, h.low); ordered = k.ordered; high = omega (arith, ints, k.high, h.high) } in
+    let j : IsEccentricityInTurns eps = record { low = omega (arith, ints, p.low, i.low); ordered = p.ordered; high = omega (arith, ints, p.high, i.high) } in
+    let n : IsWithinHalfTurn m = record { low = omega (arith, ints, k.low, h.low); ordered = k.ordered; high = omega (arith, ints, k.high, h.high) } in
     let low = lower_is eps m j n in
     let high = upper_is eps m j n in
     let low' = lower_is f c i h in

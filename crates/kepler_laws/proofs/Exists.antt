@@ -11,7 +11,7 @@ use Rattle.fractions.proofs.Quote.{quote}
 use Rattle.fractions.proofs.Ratios.{ratio-mul}
 use Rattle.raim_model.specs.Level.{Level}
 use Rattle.series_laws.proofs.Pairs.{has_pair}
-use Rattle.sine_laws.proofs.Encloses.{full_lies}
+use Rattle.trig_laws.proofs.Encloses.{full_lies}
 use Rattle.kepler_laws.specs.EccentricSine.{HasAnomaly}
 use Rattle.kepler_laws.proofs.Rises.{IsEccentricity}
 

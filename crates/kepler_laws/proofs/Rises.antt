@@ -19,8 +19,8 @@ use Rattle.fix_interval.proofs.EndProducts.{mul_encloses}
 use Rattle.fix_interval.proofs.EndSums.{sub_encloses}
 use Rattle.series_laws.proofs.Pairs.{has_pair}
 use Rattle.series_laws.proofs.Slow.{sine_moves, gap45}
-use Rattle.sine_laws.proofs.Close.{unit}
-use Rattle.sine_laws.proofs.Encloses.{sin_cos_encloses}
+use Rattle.trig_laws.proofs.Close.{unit}
+use Rattle.trig_laws.proofs.Encloses.{sin_cos_encloses}
 use Rattle.kepler_laws.specs.Anomalies.{mean_of}
 
 -- 2^-52

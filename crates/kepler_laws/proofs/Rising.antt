@@ -15,15 +15,15 @@ use Rattle.fix_interval.specs.Ends.{Ends, IsInside}
 use Rattle.fix_interval.specs.Products.{mul_of, mul_wide_of, narrow76_of}
 use Rattle.fix_interval.specs.Sums.{sub_of}
 use Rattle.fix_interval.proofs.EndProducts.{corner, mul_isotone}
+use Rattle.fix_interval.specs.Ranges.{full_ends, point}
+use Rattle.fix_interval.proofs.EndInsides.{inside_trans}
 use Rattle.series_laws.proofs.Slow.{wave, wave_moves, jump}
-use Rattle.sine_laws.specs.Quarter.{full_ends, point}
-use Rattle.sine_laws.specs.SinCos.{sin_cos_of}
-use Rattle.sine_laws.proofs.Close.{least, greatest, unit}
-use Rattle.sine_laws.proofs.Encloses.{sin_cos_full}
-use Rattle.sine_laws.proofs.Isotones.{whole_order}
-use Rattle.sine_laws.proofs.Nested.{inside_trans}
-use Rattle.sine_laws.proofs.Points.{point_close}
-use Rattle.kepler_laws.specs.Anomalies.{mean_of, is_below, is_above, IsEccentric}
+use Rattle.trig_laws.specs.SinCos.{sin_cos_of}
+use Rattle.trig_laws.proofs.Close.{least, greatest, unit}
+use Rattle.trig_laws.proofs.Encloses.{sin_cos_full}
+use Rattle.trig_laws.proofs.Isotones.{whole_order}
+use Rattle.trig_laws.proofs.Points.{point_close}
+use Rattle.kepler_laws.specs.Anomalies.{mean_of, is_below, is_above, IsEccentricityInTurns}
 
 -- ---- the sine moves by at most 21 units
 unit_order : (m n : ℤ) → ratio m (2 ^ 38) ≤ᶠ ratio n (2 ^ 38) → m ≤ℤ n
@@ -82,7 +82,7 @@ floor_step y z h = omega (arith, ints, floor_parts_high y (2 ^ 38) (pow_pos 38),
 ceil_step : (y z : ℤ) → z ≤ℤ (y +ℤ pos (2 ^ 36)) → ceil_of z (2 ^ 38) ≤ℤ (ceil_of y (2 ^ 38) +ℤ pos 1)
 ceil_step y z h = omega (arith, ints, ceil_parts_high y (2 ^ 38) (pow_pos 38), ceil_parts_low z (2 ^ 38) (pow_pos 38))
 
-mul_step : (e s t : Ends) → IsEccentric e → t.lo ≤ℤ (s.lo +ℤ pos 21) → t.hi ≤ℤ (s.hi +ℤ pos 21) → ((mul_of e t).lo ≤ℤ ((mul_of e s).lo +ℤ pos 1)) × ((mul_of e t).hi ≤ℤ ((mul_of e s).hi +ℤ pos 1))
+mul_step : (e s t : Ends) → IsEccentricityInTurns e → t.lo ≤ℤ (s.lo +ℤ pos 21) → t.hi ≤ℤ (s.hi +ℤ pos 21) → ((mul_of e t).lo ≤ℤ ((mul_of e s).lo +ℤ pos 1)) × ((mul_of e t).hi ≤ℤ ((mul_of e s).hi +ℤ pos 1))
 unfolding mul_of mul_wide_of narrow76_of
 mul_step e s t i h k =
     let el : pos 0 ≤ℤ e.lo = i.low in
@@ -99,7 +99,7 @@ mul_step e s t i h k =
     )
 
 -- both ends of the mean anomaly rise from one number to the next
-pub mean_rises : (eps : Ends) (k : ℤ) → IsEccentric eps → ((mean_of eps k).hi ≤ℤ (mean_of eps (k +ℤ pos 1)).hi) × ((mean_of eps k).lo ≤ℤ (mean_of eps (k +ℤ pos 1)).lo)
+pub mean_rises : (eps : Ends) (k : ℤ) → IsEccentricityInTurns eps → ((mean_of eps k).hi ≤ℤ (mean_of eps (k +ℤ pos 1)).hi) × ((mean_of eps k).lo ≤ℤ (mean_of eps (k +ℤ pos 1)).lo)
 unfolding mean_of sub_of
 mean_rises eps k i =
     let s : Ends = (sin_cos_of (point k)).sine in
@@ -112,7 +112,7 @@ mean_rises eps k i =
     let m1 : (mul_of eps t).hi ≤ℤ ((mul_of eps s).hi +ℤ pos 1) = m.1 in
     (omega (arith, ints), omega (arith, ints))
 
-pub below_falls : (eps : Ends) (m : ℤ) → IsEccentric eps → (k : ℤ) → is_below eps m (k +ℤ pos 1) ≡ true → is_below eps m k ≡ true
+pub below_falls : (eps : Ends) (m : ℤ) → IsEccentricityInTurns eps → (k : ℤ) → is_below eps m (k +ℤ pos 1) ≡ true → is_below eps m k ≡ true
 below_falls eps m i k e = let r = mean_rises eps k i in at_most_too (r.0) e
   where
     at_most_too : {x y : ℤ} → x ≤ℤ y → le_z y m ≡ true → le_z x m ≡ true
@@ -122,7 +122,7 @@ below_falls eps m i k e = let r = mean_rises eps k i in at_most_too (r.0) e
         by_test true d = refl
         by_test false d = absurd (omega (arith, ints))
 
-pub above_rises : (eps : Ends) (m : ℤ) → IsEccentric eps → (k : ℤ) → is_above eps m k ≡ true → is_above eps m (k +ℤ pos 1) ≡ true
+pub above_rises : (eps : Ends) (m : ℤ) → IsEccentricityInTurns eps → (k : ℤ) → is_above eps m k ≡ true → is_above eps m (k +ℤ pos 1) ≡ true
 above_rises eps m i k e = let r = mean_rises eps k i in at_least_too (r.1) e
   where
     at_least_too : {x y : ℤ} → x ≤ℤ y → le_z m x ≡ true → le_z m y ≡ true
@@ -137,12 +137,12 @@ product_widest : IsInside (mul_of record { lo = pos 0; hi = pos (2 ^ 31) } full_
 unfolding mul_of mul_wide_of narrow76_of
 product_widest = record { low = record { le = tt }; ordered = record { le = tt }; high = record { le = tt } }
 
-product_small : (eps : Ends) (k : ℤ) → IsEccentric eps → IsInside (mul_of eps (sin_cos_of (point k)).sine) record { lo = neg_ℤ (pos (2 ^ 31)); hi = pos (2 ^ 31) }
+product_small : (eps : Ends) (k : ℤ) → IsEccentricityInTurns eps → IsInside (mul_of eps (sin_cos_of (point k)).sine) record { lo = neg_ℤ (pos (2 ^ 31)); hi = pos (2 ^ 31) }
 product_small eps k i =
     let o : k ≤ℤ k = omega (arith, ints) in
     inside_trans (mul_isotone refl record { lo = pos 0; hi = pos (2 ^ 31) } full_ends record { low = i.low; ordered = i.ordered; high = i.high } (sin_cos_full (point k) o).sine) product_widest
 
 -- the mean anomaly of k is at most 2^31 units from k
-pub mean_near : (eps : Ends) (k : ℤ) → IsEccentric eps → IsInside (mean_of eps k) record { lo = k -ℤ pos (2 ^ 31); hi = k +ℤ pos (2 ^ 31) }
+pub mean_near : (eps : Ends) (k : ℤ) → IsEccentricityInTurns eps → IsInside (mean_of eps k) record { lo = k -ℤ pos (2 ^ 31); hi = k +ℤ pos (2 ^ 31) }
 unfolding mean_of sub_of
 mean_near eps k i = let p = product_small eps k i in record { low = omega (arith, ints, p.high); ordered = omega (arith, ints, p.ordered); high = omega (arith, ints, p.low) }

@@ -1,12 +1,13 @@
 -- One value, by computing.
 use Rattle.std.specs.Prelude.{◌≡◌, pos, ◌^◌, ◌-ℤ◌, neg_ℤ, refl}
-use Rattle.fix_interval.specs.Bounds.{hull_of, clamp_of}
+use Rattle.fix_interval.specs.Bounds.{hull_of, clamp_of, widen_of}
 use Rattle.fix_interval.specs.Ends.{Ends}
 use Rattle.fix_interval.specs.Products.{mul_of, mul_wide_of, narrow76_of, sqr_of, sqr_wide_of}
-use Rattle.fix_interval.specs.Quotients.{div_int_of}
-use Rattle.fix_interval.specs.Sums.{sub_of}
-use Rattle.sine_laws.specs.Quarter.{scale_of, widen_of, nested_of, sine_of, cosine_of, left_of}
-use Rattle.sine_laws.specs.SinCos.{sin_cos_of, hull_from, pair_at, pair_hull, neg_of}
+use Rattle.fix_interval.specs.Quotients.{div_int_of, scale_of}
+use Rattle.fix_interval.specs.Sums.{sub_of, neg_of}
+use Rattle.fix_interval.specs.Pairs.{hull_from, pair_hull}
+use Rattle.trig_laws.specs.Quarter.{nested_of, sine_of, cosine_of, left_of}
+use Rattle.trig_laws.specs.SinCos.{sin_cos_of, pair_at}
 use Rattle.kepler_laws.specs.Anomalies.{anomalies_of, lower_end, upper_end, mean_of}
 use Rattle.kepler_laws.specs.EccentricSine.{ecc_sin_cos_of, wrap_pair, wrapped_of}
 

@@ -17,18 +17,20 @@ use Rattle.fix_interval.specs.Ends.{Ends, IsInside}
 use Rattle.fix_interval.specs.Lies.{Lies}
 use Rattle.fix_interval.specs.Products.{mul_of}
 use Rattle.fix_interval.specs.Sums.{sub_of}
+use Rattle.fix_interval.specs.Ranges.{point}
+use Rattle.fix_interval.specs.Pairs.{PairEnds, full_pair, PairInside, hull_from}
+use Rattle.fix_interval.proofs.EndPairs.{hulls_least}
 use Rattle.series_laws.proofs.Pairs.{has_pair}
 use Rattle.series_laws.proofs.Slow.{sine_wave, near_sym}
 use Rattle.series_laws.proofs.Waves.{tiny}
-use Rattle.sine_laws.specs.Quarter.{point}
-use Rattle.sine_laws.specs.SinCos.{PairEnds, full_pair, sin_cos_of, PairInside, hull_from}
-use Rattle.sine_laws.proofs.Close.{unit, IsClose, IsAtMost, close_weaken, close_near, mul_close, minus}
-use Rattle.sine_laws.proofs.Encloses.{sin_cos_isotone, full_lies, hulls_least}
-use Rattle.sine_laws.proofs.Narrow.{sin_cos_narrow}
-use Rattle.sine_laws.proofs.Periods.{turned_on, sin_cos_on}
-use Rattle.sine_laws.proofs.Points.{point_close}
-use Rattle.kepler_laws.specs.Anomalies.{mean_of, is_below, is_above, lower_end, upper_end, bracket, anomalies_of, IsGreatest, IsLeast, IsEccentric, IsHalf}
-use Rattle.kepler_laws.specs.EccentricSine.{wrap_at, wrapped_of, wrap_pair, ecc_sin_cos_of}
+use Rattle.trig_laws.specs.SinCos.{sin_cos_of}
+use Rattle.trig_laws.proofs.Close.{unit, IsClose, IsAtMost, close_weaken, close_near, mul_close, minus}
+use Rattle.trig_laws.proofs.Encloses.{sin_cos_isotone, full_lies}
+use Rattle.trig_laws.proofs.Narrow.{sin_cos_narrow}
+use Rattle.trig_laws.proofs.Periods.{turned_on, sin_cos_on}
+use Rattle.trig_laws.proofs.Points.{point_close}
+use Rattle.kepler_laws.specs.Anomalies.{mean_of, is_below, is_above, lower_end, upper_end, bracket, anomalies_of, IsGreatest, IsLeast, IsEccentricityInTurns, IsWithinHalfTurn}
+use Rattle.kepler_laws.specs.EccentricSine.{nearest_turn_of, wrapped_of, wrap_pair, ecc_sin_cos_of}
 use Rattle.kepler_laws.proofs.Anomalies.{fails, passed, passes, bracket_order, bracket_size, eccentricity, lower_is, upper_is}
 use Rattle.kepler_laws.proofs.Halvings.{lower_last, upper_first}
 use Rattle.kepler_laws.proofs.Rises.{IsEccentricity, rises, gap52}
@@ -51,7 +53,7 @@ at_one = constants (search quote depth 20) tt
 below_zero : neg (ratio (pos 1) 128) ≤ᶠ zeroᶠ
 below_zero = constants (search quote depth 20) tt
 
-pub mean_close : (N : Level) (eps : Ends) (k : ℤ) (s c : Fraction) → IsEccentric eps → (eps.hi -ℤ eps.lo) ≤ℤ pos 4 → IsSineCosine N (ratio k (2 ^ 38)) s c
+pub mean_close : (N : Level) (eps : Ends) (k : ℤ) (s c : Fraction) → IsEccentricityInTurns eps → (eps.hi -ℤ eps.lo) ≤ℤ pos 4 → IsSineCosine N (ratio k (2 ^ 38)) s c
     → IsClose (mean_of eps k) (ratio k (2 ^ 38) -ᶠ ratio eps.lo (2 ^ 38) *ᶠ s) (ratio (pos 6) 1 *ᶠ unit)
 unfolding mean_of sub_of
 mean_close N eps k s c i n p =
@@ -89,7 +91,7 @@ level = record { terms = 100; enough = lit≤ tt }
 span_units : ratio (pos 128) 118 *ᶠ (gap52 +ᶠ ratio (pos 12) 1 *ᶠ unit) ≤ᶠ ratio (pos 14) (2 ^ 38)
 span_units = constants (search quote depth 20) tt
 
-pub span : (eps : Ends) (x y p q : ℤ) → IsEccentric eps → (eps.hi -ℤ eps.lo) ≤ℤ pos 4 → p ≤ℤ (mean_of eps x).hi → (mean_of eps y).lo ≤ℤ q → p ≤ℤ q → (y -ℤ x) ≤ℤ ((pos 2 *ℤ (q -ℤ p)) +ℤ pos 14)
+pub span : (eps : Ends) (x y p q : ℤ) → IsEccentricityInTurns eps → (eps.hi -ℤ eps.lo) ≤ℤ pos 4 → p ≤ℤ (mean_of eps x).hi → (mean_of eps y).lo ≤ℤ q → p ≤ℤ q → (y -ℤ x) ≤ℤ ((pos 2 *ℤ (q -ℤ p)) +ℤ pos 14)
 span eps x y p q i n hx hy pq =
     let X : Fraction = ratio x (2 ^ 38) in
     let Y : Fraction = ratio y (2 ^ 38) in
@@ -124,7 +126,7 @@ span eps x y p q i n hx hy pq =
 failed : (x y : ℤ) → le_z x y ≡ false → y <ℤ x
 failed x y e = omega (arith, ints)
 
-lower_next : (eps m : Ends) → IsEccentric eps → IsHalf m → m.lo <ℤ (mean_of eps ((anomalies_of eps m).lo +ℤ pos 2)).hi
+lower_next : (eps m : Ends) → IsEccentricityInTurns eps → IsWithinHalfTurn m → m.lo <ℤ (mean_of eps ((anomalies_of eps m).lo +ℤ pos 2)).hi
 unfolding anomalies_of
 lower_next eps m i h =
     let a = mean_near eps (neg_ℤ bracket) i in
@@ -140,7 +142,7 @@ lower_next eps m i h =
     one_on : (z : ℤ) → z +ℤ pos 1 ≡ (z -ℤ pos 1) +ℤ pos 2
     one_on z = omega (arith, ints)
 
-upper_before : (eps m : Ends) → IsEccentric eps → IsHalf m → (mean_of eps ((anomalies_of eps m).hi -ℤ pos 2)).lo <ℤ m.hi
+upper_before : (eps m : Ends) → IsEccentricityInTurns eps → IsWithinHalfTurn m → (mean_of eps ((anomalies_of eps m).hi -ℤ pos 2)).lo <ℤ m.hi
 unfolding anomalies_of
 upper_before eps m i h =
     let a = mean_near eps (neg_ℤ bracket) i in
@@ -170,20 +172,20 @@ mean_on eps k w =
 -- ---- the anomalies of all turns, put back
 abbrev pub spread : Ends → Ends → Ends
 spread m eps = record {
-  lo = (anomalies_of eps (wrapped_of m (wrap_at m.lo))).lo +ℤ (wrap_at m.lo *ℤ pos (2 ^ 38));
-  hi = (anomalies_of eps (wrapped_of m (wrap_at m.hi))).hi +ℤ (wrap_at m.hi *ℤ pos (2 ^ 38));
+  lo = (anomalies_of eps (wrapped_of m (nearest_turn_of m.lo))).lo +ℤ (nearest_turn_of m.lo *ℤ pos (2 ^ 38));
+  hi = (anomalies_of eps (wrapped_of m (nearest_turn_of m.hi))).hi +ℤ (nearest_turn_of m.hi *ℤ pos (2 ^ 38));
 }
 
-first_lo : (m : Ends) → (wrapped_of m (wrap_at m.lo)).lo ≡ m.lo -ℤ (wrap_at m.lo *ℤ pos (2 ^ 38))
+first_lo : (m : Ends) → (wrapped_of m (nearest_turn_of m.lo)).lo ≡ m.lo -ℤ (nearest_turn_of m.lo *ℤ pos (2 ^ 38))
 unfolding wrapped_of clamp_of sub_of
-first_lo m = let j = spans_wrap m.lo (wrap_at m.lo) (self (wrap_at m.lo)) in omega (arith, ints, clamps)
+first_lo m = let j = spans_wrap m.lo (nearest_turn_of m.lo) (self (nearest_turn_of m.lo)) in omega (arith, ints, clamps)
   where
     self : (z : ℤ) → z ≤ℤ z
     self z = omega (arith, ints)
 
-last_hi : (m : Ends) → (wrapped_of m (wrap_at m.hi)).hi ≡ m.hi -ℤ (wrap_at m.hi *ℤ pos (2 ^ 38))
+last_hi : (m : Ends) → (wrapped_of m (nearest_turn_of m.hi)).hi ≡ m.hi -ℤ (nearest_turn_of m.hi *ℤ pos (2 ^ 38))
 unfolding wrapped_of clamp_of sub_of
-last_hi m = let j = wrap_spans m.hi (wrap_at m.hi) (self (wrap_at m.hi)) in omega (arith, ints, clamps)
+last_hi m = let j = wrap_spans m.hi (nearest_turn_of m.hi) (self (nearest_turn_of m.hi)) in omega (arith, ints, clamps)
   where
     self : (z : ℤ) → z ≤ℤ z
     self z = omega (arith, ints)
@@ -199,10 +201,10 @@ any_hi m w = omega (arith, ints, clamps)
 same : (z : ℤ) → z ≤ℤ z
 same z = omega (arith, ints)
 
-spread_low : (m eps : Ends) (w : ℤ) → m.lo ≤ℤ m.hi → IsEccentric eps → wrap_at m.lo ≤ℤ w → w ≤ℤ wrap_at m.hi → (spread m eps).lo ≤ℤ ((anomalies_of eps (wrapped_of m w)).lo +ℤ (w *ℤ pos (2 ^ 38)))
+spread_low : (m eps : Ends) (w : ℤ) → m.lo ≤ℤ m.hi → IsEccentricityInTurns eps → nearest_turn_of m.lo ≤ℤ w → w ≤ℤ nearest_turn_of m.hi → (spread m eps).lo ≤ℤ ((anomalies_of eps (wrapped_of m w)).lo +ℤ (w *ℤ pos (2 ^ 38)))
 unfolding anomalies_of
 spread_low m eps w o i h k =
-    let f : ℤ = wrap_at m.lo in
+    let f : ℤ = nearest_turn_of m.lo in
     let a = lower_is eps (wrapped_of m f) i (wrapped_half m f o (same f) (wrap_mono m.lo m.hi o)) in
     let b = lower_is eps (wrapped_of m w) i (wrapped_half m w o h k) in
     goes _ _ f (ap (λ t. t.hi) (mean_on eps _ (f -ℤ w))) a b (first_lo m) (any_lo m w) h
@@ -218,10 +220,10 @@ spread_low m eps w o i h k =
         let u = b.greatest _ l (passes _ _ q) in
         omega (arith, ints, u)
 
-spread_high : (m eps : Ends) (w : ℤ) → m.lo ≤ℤ m.hi → IsEccentric eps → wrap_at m.lo ≤ℤ w → w ≤ℤ wrap_at m.hi → ((anomalies_of eps (wrapped_of m w)).hi +ℤ (w *ℤ pos (2 ^ 38))) ≤ℤ (spread m eps).hi
+spread_high : (m eps : Ends) (w : ℤ) → m.lo ≤ℤ m.hi → IsEccentricityInTurns eps → nearest_turn_of m.lo ≤ℤ w → w ≤ℤ nearest_turn_of m.hi → ((anomalies_of eps (wrapped_of m w)).hi +ℤ (w *ℤ pos (2 ^ 38))) ≤ℤ (spread m eps).hi
 unfolding anomalies_of
 spread_high m eps w o i h k =
-    let f : ℤ = wrap_at m.hi in
+    let f : ℤ = nearest_turn_of m.hi in
     let a = upper_is eps (wrapped_of m f) i (wrapped_half m f o (wrap_mono m.lo m.hi o) (same f)) in
     let b = upper_is eps (wrapped_of m w) i (wrapped_half m w o h k) in
     goes _ _ f (ap (λ t. t.lo) (mean_on eps _ (f -ℤ w))) a b (last_hi m) (any_hi m w) k
@@ -237,17 +239,17 @@ spread_high m eps w o i h k =
         let u = b.least _ l (passes _ _ q) in
         omega (arith, ints, u)
 
-spread_holds : (m eps : Ends) (w : ℤ) → m.lo ≤ℤ m.hi → IsEccentric eps → wrap_at m.lo ≤ℤ w → w ≤ℤ wrap_at m.hi → IsInside (turned_on (anomalies_of eps (wrapped_of m w)) w) (spread m eps)
+spread_holds : (m eps : Ends) (w : ℤ) → m.lo ≤ℤ m.hi → IsEccentricityInTurns eps → nearest_turn_of m.lo ≤ℤ w → w ≤ℤ nearest_turn_of m.hi → IsInside (turned_on (anomalies_of eps (wrapped_of m w)) w) (spread m eps)
 spread_holds m eps w o i h k = record { low = spread_low m eps w o i h k; ordered = more (anomalies_ordered eps (wrapped_of m w) i (wrapped_half m w o h k)); high = spread_high m eps w o i h k }
   where
     more : {x y : ℤ} → x ≤ℤ y → (x +ℤ (w *ℤ pos (2 ^ 38))) ≤ℤ (y +ℤ (w *ℤ pos (2 ^ 38)))
     more h = omega (arith, ints)
 
 -- the anomalies of all turns are at most twice as wide as the mean ones, and 18 units
-pub spread_width : (m eps : Ends) → m.lo ≤ℤ m.hi → IsEccentric eps → (eps.hi -ℤ eps.lo) ≤ℤ pos 4 → ((spread m eps).hi -ℤ (spread m eps).lo) ≤ℤ ((pos 2 *ℤ (m.hi -ℤ m.lo)) +ℤ pos 18)
+pub spread_width : (m eps : Ends) → m.lo ≤ℤ m.hi → IsEccentricityInTurns eps → (eps.hi -ℤ eps.lo) ≤ℤ pos 4 → ((spread m eps).hi -ℤ (spread m eps).lo) ≤ℤ ((pos 2 *ℤ (m.hi -ℤ m.lo)) +ℤ pos 18)
 spread_width m eps o i n =
-    let f : ℤ = wrap_at m.lo in
-    let l : ℤ = wrap_at m.hi in
+    let f : ℤ = nearest_turn_of m.lo in
+    let l : ℤ = nearest_turn_of m.hi in
     let fl : f ≤ℤ l = wrap_mono m.lo m.hi o in
     let a : ℤ = (anomalies_of eps (wrapped_of m f)).lo in
     let b : ℤ = (anomalies_of eps (wrapped_of m l)).hi in
@@ -269,24 +271,24 @@ spread_width m eps o i n =
     ends a b x y h = omega (arith, ints, h)
 
 -- ---- the answer is inside the sine and cosine of these
-wrap_inside : (m eps : Ends) (w : ℤ) → m.lo ≤ℤ m.hi → IsEccentric eps → wrap_at m.lo ≤ℤ w → w ≤ℤ wrap_at m.hi → PairInside (wrap_pair m eps w) (sin_cos_of (spread m eps))
+wrap_inside : (m eps : Ends) (w : ℤ) → m.lo ≤ℤ m.hi → IsEccentricityInTurns eps → nearest_turn_of m.lo ≤ℤ w → w ≤ℤ nearest_turn_of m.hi → PairInside (wrap_pair m eps w) (sin_cos_of (spread m eps))
 unfolding wrap_pair
 wrap_inside m eps w o i h k = sin_cos_isotone (sym (sin_cos_on (anomalies_of eps (wrapped_of m w)) w)) (spread m eps) (spread_holds m eps w o i h k)
 
-pub hull_inside : (m eps : Ends) → m.lo ≤ℤ m.hi → IsEccentric eps → PairInside (hull_from (wrap_pair m eps) (wrap_at m.lo) (wraps_of m)) (sin_cos_of (spread m eps))
-hull_inside m eps o i = let lm = last_wrap m o in hulls_least (wrap_pair m eps) _ (wrap_at m.lo) _ (λ w h k. wrap_inside m eps w o i h (rw lm at k))
+pub hull_inside : (m eps : Ends) → m.lo ≤ℤ m.hi → IsEccentricityInTurns eps → PairInside (hull_from (wrap_pair m eps) (nearest_turn_of m.lo) (wraps_of m)) (sin_cos_of (spread m eps))
+hull_inside m eps o i = let lm = last_wrap m o in hulls_least (wrap_pair m eps) _ (nearest_turn_of m.lo) _ (λ w h k. wrap_inside m eps w o i h (rw lm at k))
 
 -- each part is at most b wide
 abbrev pub WidthsAtMost : PairEnds → ℤ → Type 0
 WidthsAtMost p b = ((p.sine.hi -ℤ p.sine.lo) ≤ℤ b) × ((p.cosine.hi -ℤ p.cosine.lo) ≤ℤ b)
 
 -- each part is at most 32 w + 2048 wide
-pub ecc_narrow : {m eps : Ends} {r : PairEnds} → r ≡ ecc_sin_cos_of m eps → m.lo ≤ℤ m.hi → IsEccentric eps → (eps.hi -ℤ eps.lo) ≤ℤ pos 4 → WidthsAtMost r ((pos 32 *ℤ (m.hi -ℤ m.lo)) +ℤ pos 2048)
+pub ecc_narrow : {m eps : Ends} {r : PairEnds} → r ≡ ecc_sin_cos_of m eps → m.lo ≤ℤ m.hi → IsEccentricityInTurns eps → (eps.hi -ℤ eps.lo) ≤ℤ pos 4 → WidthsAtMost r ((pos 32 *ℤ (m.hi -ℤ m.lo)) +ℤ pos 2048)
 unfolding ecc_sin_cos_of
 ecc_narrow {m} {eps} {r} e o i n = rw e (by_width (le_z (pos (2 ^ 38)) (m.hi -ℤ m.lo)) refl)
   where
     ordered : (spread m eps).lo ≤ℤ (spread m eps).hi
-    ordered = let fl = wrap_mono m.lo m.hi o in let p = spread_holds m eps (wrap_at m.lo) o i (same (wrap_at m.lo)) fl in between p.low p.ordered p.high
+    ordered = let fl = wrap_mono m.lo m.hi o in let p = spread_holds m eps (nearest_turn_of m.lo) o i (same (nearest_turn_of m.lo)) fl in between p.low p.ordered p.high
       where
         between : {x y z t : ℤ} → x ≤ℤ y → y ≤ℤ z → z ≤ℤ t → x ≤ℤ t
         between h k l = omega (arith, ints)
@@ -297,6 +299,6 @@ ecc_narrow {m} {eps} {r} e o i n = rw e (by_width (le_z (pos (2 ^ 38)) (m.hi -�
         numbers : (x y z t d : ℤ) → z ≤ℤ x → y ≤ℤ t → (t -ℤ z) ≤ℤ ((pos 16 *ℤ d) +ℤ pos 256) → d ≤ℤ ((pos 2 *ℤ (m.hi -ℤ m.lo)) +ℤ pos 18) → (y -ℤ x) ≤ℤ ((pos 32 *ℤ (m.hi -ℤ m.lo)) +ℤ pos 2048)
         numbers x y z t d h k l j = omega (arith, ints, l, j)
 
-    by_width : (t : Bool) → le_z (pos (2 ^ 38)) (m.hi -ℤ m.lo) ≡ t → WidthsAtMost (cond t full_pair (hull_from (wrap_pair m eps) (wrap_at m.lo) (wraps_of m))) ((pos 32 *ℤ (m.hi -ℤ m.lo)) +ℤ pos 2048)
+    by_width : (t : Bool) → le_z (pos (2 ^ 38)) (m.hi -ℤ m.lo) ≡ t → WidthsAtMost (cond t full_pair (hull_from (wrap_pair m eps) (nearest_turn_of m.lo) (wraps_of m))) ((pos 32 *ℤ (m.hi -ℤ m.lo)) +ℤ pos 2048)
     by_width true e = (omega (arith, ints), omega (arith, ints))
     by_width false e = let p = hull_inside m eps o i in let w = sin_cos_narrow {a = spread m eps} refl ordered in (less p.sine w.0, less p.cosine w.1)

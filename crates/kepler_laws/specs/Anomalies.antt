@@ -6,17 +6,17 @@ use Rattle.whole_numbers.specs.Rounding.{floor_of}
 use Rattle.fix_interval.specs.Ends.{Ends}
 use Rattle.fix_interval.specs.Sums.{sub_of}
 use Rattle.fix_interval.specs.Products.{mul_of}
-use Rattle.sine_laws.specs.Quarter.{point}
-use Rattle.sine_laws.specs.SinCos.{sin_cos_of}
+use Rattle.fix_interval.specs.Ranges.{point}
+use Rattle.trig_laws.specs.SinCos.{sin_cos_of}
 
 -- an eccentricity over tau: from 0 to 2^-7
-pub record IsEccentric (eps : Ends) : Type 0 where
+pub record IsEccentricityInTurns (eps : Ends) : Type 0 where
   pub low : pos 0 ≤ℤ eps.lo
   pub ordered : eps.lo ≤ℤ eps.hi
   pub high : eps.hi ≤ℤ pos (2 ^ 31)
 
 -- mean anomalies of at most half a turn either way
-pub record IsHalf (m : Ends) : Type 0 where
+pub record IsWithinHalfTurn (m : Ends) : Type 0 where
   pub low : neg_ℤ (pos (2 ^ 37)) ≤ℤ m.lo
   pub ordered : m.lo ≤ℤ m.hi
   pub high : m.hi ≤ℤ pos (2 ^ 37)

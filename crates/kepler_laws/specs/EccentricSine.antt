@@ -10,13 +10,14 @@ use Rattle.raim_model.specs.Kepler.{SolvesKepler}
 use Rattle.fix_interval.specs.Ends.{Ends}
 use Rattle.fix_interval.specs.Bounds.{clamp_of}
 use Rattle.fix_interval.specs.Sums.{sub_of}
-use Rattle.sine_laws.specs.Quarter.{point}
-use Rattle.sine_laws.specs.SinCos.{PairEnds, full_pair, hull_from, sin_cos_of}
+use Rattle.fix_interval.specs.Ranges.{point}
+use Rattle.fix_interval.specs.Pairs.{PairEnds, full_pair, hull_from}
+use Rattle.trig_laws.specs.SinCos.{sin_cos_of}
 use Rattle.kepler_laws.specs.Anomalies.{anomalies_of}
 
 -- the whole turn that is nearest to z units
-abbrev pub wrap_at : ℤ → ℤ
-wrap_at z = floor_of (z +ℤ pos (2 ^ 37)) (2 ^ 38)
+abbrev pub nearest_turn_of : ℤ → ℤ
+nearest_turn_of z = floor_of (z +ℤ pos (2 ^ 37)) (2 ^ 38)
 
 -- what of m is nearest to the whole turn w, from there: at most half a turn either way
 unfoldable pub wrapped_of : Ends → ℤ → Ends
@@ -28,7 +29,7 @@ wrap_pair m eps w = sin_cos_of (anomalies_of eps (wrapped_of m w))
 
 -- the sine and the cosine of the eccentric anomalies of the mean anomalies m
 unfoldable pub ecc_sin_cos_of : Ends → Ends → PairEnds
-ecc_sin_cos_of m eps = cond (le_z (pos (2 ^ 38)) (m.hi -ℤ m.lo)) full_pair (hull_from (wrap_pair m eps) (wrap_at m.lo) (unsigned_abs (wrap_at m.hi -ℤ wrap_at m.lo)))
+ecc_sin_cos_of m eps = cond (le_z (pos (2 ^ 38)) (m.hi -ℤ m.lo)) full_pair (hull_from (wrap_pair m eps) (nearest_turn_of m.lo) (unsigned_abs (nearest_turn_of m.hi -ℤ nearest_turn_of m.lo)))
 
 -- the model admits an eccentric anomaly of the mean anomaly m at level N, with a sine and a cosine
 pub record HasAnomaly (N : Level) (m eps : Fraction) : Type 0 where

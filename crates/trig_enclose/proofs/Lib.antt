@@ -1,4 +1,4 @@
 pub mod Casts
 pub mod Eighths
-pub mod Hulls
 pub mod Turned
+pub mod Wholes

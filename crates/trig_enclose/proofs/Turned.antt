@@ -3,9 +3,11 @@ use Rattle.std.specs.Prelude.{◌≡◌, ℤ, pos, neg_ℤ, ◌^◌, ◌≤ℤ�
 use Rattle.std.proofs.Common.{arith, ap, sym, ◌∙◌}
 use Rattle.std.proofs.lemmas.Int.{ints}
 use Rattle.fix_interval.specs.Ends.{Ends}
-use Rattle.sine_laws.specs.Quarter.{point}
-use Rattle.sine_laws.specs.SinCos.{PairEnds, neg_of, turn_of, sin_cos_of}
-use Rattle.sine_laws.proofs.Encloses.{sin_cos_full}
+use Rattle.fix_interval.specs.Ranges.{point}
+use Rattle.fix_interval.specs.Pairs.{PairEnds}
+use Rattle.fix_interval.specs.Sums.{neg_of}
+use Rattle.trig_laws.specs.SinCos.{turn_of, sin_cos_of}
+use Rattle.trig_laws.proofs.Encloses.{sin_cos_full}
 
 turned : (a b : Ends) (l : ℤ) {p : PairEnds} {k : ℤ} → p ≡ turn_of k a b → k ≡ l → (turn_of l a b).sine ≡ p.sine
 turned a b l e f = sym (ap (λ (q : PairEnds). q.sine) (e ∙ ap (λ z. turn_of z a b) f))

@@ -1,1 +1,2 @@
-pub mod Shorts
+pub mod Views
+pub mod Quarters

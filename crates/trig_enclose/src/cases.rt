@@ -2,7 +2,7 @@
 // turn, near and far, with their sines and cosines, worked out in whole numbers of any size as the definitions are written.
 
 use crate::turns::sin_cos;
-use fix_interval::interval::Iv;
+use fix_interval::Iv;
 
 #[derive(Clone, Copy)]
 struct Case {

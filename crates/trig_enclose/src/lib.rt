@@ -1,24 +1,23 @@
 //! The sine and the cosine of turns, as intervals that hold what the model admits at every level.
 //!
-//! The contracts fix each answer by the definition in `sine_laws`. The code takes no division but by small constants:
+//! The contracts fix each answer by the definition in `trig_laws`. The code takes no division but by small constants:
 //! within a quarter turn every quantity fits 64 bits, and each end is one chain of six products.
 #![tactic(auto)]
 
 #[cfg(test)]
 mod cases;
 mod eighth;
+mod interval_of_turns;
 mod nested;
 mod pair;
 mod points;
-mod products;
 mod quarters;
 mod radians;
-mod short;
 mod square;
 #[cfg(test)]
 mod tests;
 mod turns;
+mod unit_iv;
 
 pub use points::{sine_high, sine_low};
-pub use products::{product_down, product_up};
 pub use turns::sin_cos;

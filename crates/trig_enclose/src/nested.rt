@@ -1,16 +1,17 @@
 // The series by nested multiplication, an end at a time: each is one chain of six products.
 
 ghost use Rattle.std.specs.Prelude.{◌≡◌, ◌^◌, ◌<◌, ◌≤◌, true, false};
-ghost use Rattle.sine_laws.specs.Quarter.{sine_divisors, cosine_divisors};
-ghost use Rattle.sine_laws.specs.Chains.{step_down, step_up, nest_end};
+ghost use Rattle.trig_laws.specs.Quarter.{sine_divisors, cosine_divisors};
+ghost use Rattle.trig_laws.specs.Chains.{step_down, step_up, nest_end};
 
-use crate::short::Fraction38;
+use crate::unit_iv::UnitIv;
+use fix_interval::UNITS_IN_ONE;
 
 /// 1 in units of 2^-38.
-const ONE: u64 = 274877906944;
+const ONE: u64 = UNITS_IN_ONE as u64;
 
 /// A unit less.
-const BELOW_ONE: u128 = 274877906943;
+const BELOW_ONE: u128 = (UNITS_IN_ONE - 1) as u128;
 
 /// 1 - y h / k, rounded down.
 #[inline(always)]
@@ -40,7 +41,7 @@ fn stepped_up(y: u64, h: u64, k: u64) -> u64
 }
 
 #[inline(always)]
-pub(crate) fn sine_nest_low(y: Fraction38) -> u64
+pub(crate) fn sine_nest_low(y: UnitIv) -> u64
     ensures value { result ≡ nest_end false y.lo y.hi sine_divisors }
     ensures unit { result ≤ 2 ^ 38 }
 {
@@ -53,7 +54,7 @@ pub(crate) fn sine_nest_low(y: Fraction38) -> u64
 }
 
 #[inline(always)]
-pub(crate) fn sine_nest_high(y: Fraction38) -> u64
+pub(crate) fn sine_nest_high(y: UnitIv) -> u64
     ensures value { result ≡ nest_end true y.lo y.hi sine_divisors }
     ensures unit { result ≤ 2 ^ 38 }
 {
@@ -66,7 +67,7 @@ pub(crate) fn sine_nest_high(y: Fraction38) -> u64
 }
 
 #[inline(always)]
-pub(crate) fn cosine_nest_low(y: Fraction38) -> u64
+pub(crate) fn cosine_nest_low(y: UnitIv) -> u64
     ensures value { result ≡ nest_end false y.lo y.hi cosine_divisors }
     ensures unit { result ≤ 2 ^ 38 }
 {
@@ -79,7 +80,7 @@ pub(crate) fn cosine_nest_low(y: Fraction38) -> u64
 }
 
 #[inline(always)]
-pub(crate) fn cosine_nest_high(y: Fraction38) -> u64
+pub(crate) fn cosine_nest_high(y: UnitIv) -> u64
     ensures value { result ≡ nest_end true y.lo y.hi cosine_divisors }
     ensures unit { result ≤ 2 ^ 38 }
 {

@@ -2,36 +2,38 @@
 
 ghost use Rattle.std.specs.Prelude.{◌≡◌, pos, neg_ℤ, ◌^◌, ◌≤ℤ◌, ◌<ℤ◌};
 ghost use Rattle.fix_interval.specs.Ends.{IsInside};
-ghost use Rattle.sine_laws.specs.Quarter.{point, radian_ends};
-ghost use Rattle.sine_laws.specs.SinCos.{sin_cos_of, turn_of};
-ghost use Rattle.sine_laws.specs.Chains.{sine_ends, cosine_ends};
-ghost use Rattle.trig_enclose.specs.Shorts.{short_ends};
+ghost use Rattle.fix_interval.specs.Ranges.{point};
+ghost use Rattle.trig_laws.specs.Quarter.{radian_ends};
+ghost use Rattle.trig_laws.specs.SinCos.{sin_cos_of, turn_of};
+ghost use Rattle.trig_laws.specs.Chains.{sine_ends, cosine_ends};
+ghost use Rattle.fix_interval.specs.Intervals.{ends_64};
 
-use crate::eighth::{cosine_down, cosine_up, sine_down, sine_up};
-use crate::quarters::{left, quarter_of};
+use crate::eighth::{eighth_cosine_high, eighth_cosine_low, eighth_sine_high, eighth_sine_low};
+use crate::quarters::{left, nearest_quarter};
 use crate::radians::in_radians;
-use crate::short::{Fraction38, Short};
 use crate::square::square;
+use crate::unit_iv::UnitIv;
+use fix_interval::Iv64;
 
 /// Where a number of units stands: its nearest quarter turn, from 0 to 3, and the radians from there with their square.
 #[derive(Clone, Copy)]
 struct Place {
     quarter: i64,
-    radians: Short,
-    square: Fraction38,
+    radians: Iv64,
+    square: UnitIv,
 }
 
 #[inline(always)]
 fn place_of(k: i64) -> Place
     requires low { neg_ℤ (pos (2 ^ 60)) ≤ℤ k }
     requires high { k ≤ℤ pos (2 ^ 60) }
-    ensures pair { sin_cos_of (point k) ≡ turn_of result.quarter (sine_ends (short_ends result.radians) result.square.lo result.square.hi) (cosine_ends result.square.lo result.square.hi) }
-    ensures small { IsInside (short_ends result.radians) radian_ends }
+    ensures pair { sin_cos_of (point k) ≡ turn_of result.quarter (sine_ends (ends_64 result.radians) result.square.lo result.square.hi) (cosine_ends result.square.lo result.square.hi) }
+    ensures small { IsInside (ends_64 result.radians) radian_ends }
     ensures quarter_low { pos 0 ≤ℤ result.quarter }
     ensures quarter_high { result.quarter <ℤ pos 4 }
 {
-    let quarter = quarter_of(k);
-    let radians = in_radians(left(Short { lo: k, hi: k }, quarter));
+    let quarter = nearest_quarter(k);
+    let radians = in_radians(left(Iv64 { lo: k, hi: k }, quarter));
     Place {
         quarter: quarter.rem_euclid(4),
         radians,
@@ -49,13 +51,13 @@ pub fn sine_low(k: i64) -> i64
 {
     let place = place_of(k);
     if place.quarter == 0 {
-        sine_down(place.radians.lo, place.square)
+        eighth_sine_low(place.radians.lo, place.square)
     } else if place.quarter == 1 {
-        cosine_down(place.square)
+        eighth_cosine_low(place.square)
     } else if place.quarter == 2 {
-        -sine_up(place.radians.hi, place.square)
+        -eighth_sine_high(place.radians.hi, place.square)
     } else {
-        -cosine_up(place.square)
+        -eighth_cosine_high(place.square)
     }
 }
 
@@ -69,12 +71,12 @@ pub fn sine_high(k: i64) -> i64
 {
     let place = place_of(k);
     if place.quarter == 0 {
-        sine_up(place.radians.hi, place.square)
+        eighth_sine_high(place.radians.hi, place.square)
     } else if place.quarter == 1 {
-        cosine_up(place.square)
+        eighth_cosine_high(place.square)
     } else if place.quarter == 2 {
-        -sine_down(place.radians.lo, place.square)
+        -eighth_sine_low(place.radians.lo, place.square)
     } else {
-        -cosine_down(place.square)
+        -eighth_cosine_low(place.square)
     }
 }

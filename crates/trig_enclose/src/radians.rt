@@ -4,10 +4,10 @@
 ghost use Rattle.std.specs.Prelude.{◌≡◌, pos, neg_ℤ, ◌+◌, ◌-◌, ◌*◌, ◌/◌, ◌^◌, ◌≤◌, ◌≤ℤ◌, ◌*ℤ◌};
 ghost use Rattle.whole_numbers.specs.Rounding.{floor_of, ceil_of};
 ghost use Rattle.fix_interval.specs.Ends.{IsInside};
-ghost use Rattle.sine_laws.specs.Quarter.{turn_parts, radians_of, eighth_ends, radian_ends};
-ghost use Rattle.trig_enclose.specs.Shorts.{short_ends};
+ghost use Rattle.trig_laws.specs.Quarter.{turn_parts, radians_of, eighth_ends, radian_ends};
+ghost use Rattle.fix_interval.specs.Intervals.{ends_64};
 
-use crate::short::Short;
+use fix_interval::Iv64;
 
 /// The radians of a turn in units of 2^-80, rounded up.
 const TURN_UP: u128 = 7595904947272693509970169;
@@ -64,12 +64,12 @@ fn radians_up(r: i64) -> i64
 
 /// At most an eighth of a turn, in radians.
 #[inline(always)]
-pub(crate) fn in_radians(r: Short) -> Short
-    requires { IsInside (short_ends r) eighth_ends }
-    ensures exact { short_ends result ≡ radians_of (short_ends r) }
-    ensures small { IsInside (short_ends result) radian_ends }
+pub(crate) fn in_radians(r: Iv64) -> Iv64
+    requires { IsInside (ends_64 r) eighth_ends }
+    ensures exact { ends_64 result ≡ radians_of (ends_64 r) }
+    ensures small { IsInside (ends_64 result) radian_ends }
 {
-    Short {
+    Iv64 {
         lo: radians_down(r.lo),
         hi: radians_up(r.hi),
     }

@@ -3,14 +3,16 @@
 ghost use Rattle.std.specs.Prelude.{◌≡◌, ◌+◌, ◌-◌, ◌*◌, ◌/◌, ◌^◌, ◌≤◌};
 ghost use Rattle.fix_interval.specs.Ends.{IsInside};
 ghost use Rattle.fix_interval.specs.Products.{sqr_of};
-ghost use Rattle.sine_laws.specs.Quarter.{radian_ends};
-ghost use Rattle.sine_laws.specs.Chains.{naturals};
-ghost use Rattle.trig_enclose.specs.Shorts.{short_ends, fraction_ends};
+ghost use Rattle.fix_interval.specs.Ranges.{from_to};
+ghost use Rattle.trig_laws.specs.Quarter.{radian_ends};
+ghost use Rattle.fix_interval.specs.Intervals.{ends_64};
+ghost use Rattle.trig_enclose.specs.Views.{unit_iv_ends};
 
-use crate::short::{Fraction38, Short};
+use crate::unit_iv::UnitIv;
+use fix_interval::{Iv64, UNITS_IN_ONE};
 
 /// A unit less than 1, in units of 2^-38.
-const BELOW_ONE: u128 = 274877906943;
+const BELOW_ONE: u128 = (UNITS_IN_ONE - 1) as u128;
 
 #[inline(always)]
 fn square_down(n: u64) -> u64
@@ -30,12 +32,12 @@ fn square_up(n: u64) -> u64
 
 /// The squares of numbers from `low` to `high`.
 #[inline(always)]
-fn squares(low: u64, high: u64) -> Fraction38
+fn squares(low: u64, high: u64) -> UnitIv
     requires order { low ≤ high }
     requires small { high ≤ 2 ^ 38 }
-    ensures { fraction_ends result ≡ naturals (low * low / 2 ^ 38) ((high * high + (2 ^ 38 - 1)) / 2 ^ 38) }
+    ensures { unit_iv_ends result ≡ from_to (low * low / 2 ^ 38) ((high * high + (2 ^ 38 - 1)) / 2 ^ 38) }
 {
-    Fraction38 {
+    UnitIv {
         lo: square_down(low),
         hi: square_up(high),
     }
@@ -43,9 +45,9 @@ fn squares(low: u64, high: u64) -> Fraction38
 
 /// The square, whose least is 0 where `x` holds 0.
 #[inline(always)]
-pub(crate) fn square(x: Short) -> Fraction38
-    requires { IsInside (short_ends x) radian_ends }
-    ensures { fraction_ends result ≡ sqr_of (short_ends x) }
+pub(crate) fn square(x: Iv64) -> UnitIv
+    requires { IsInside (ends_64 x) radian_ends }
+    ensures { unit_iv_ends result ≡ sqr_of (ends_64 x) }
 {
     if x.lo >= 0 {
         squares(x.lo as u64, x.hi as u64)

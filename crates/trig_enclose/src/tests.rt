@@ -1,11 +1,10 @@
 // The happy paths, at values known beforehand.
 
 use crate::points::{sine_high, sine_low};
-use crate::products::{product_down, product_up};
 use crate::turns::sin_cos;
-use fix_interval::interval::Iv;
+use fix_interval::Iv;
 
-const ONE: i128 = 274877906944;
+const ONE: i128 = fix_interval::UNITS_IN_ONE;
 
 fn ends(parts: (Iv, Iv)) -> ((i128, i128), (i128, i128)) {
     ((parts.0.lo, parts.0.hi), (parts.1.lo, parts.1.hi))
@@ -51,12 +50,4 @@ fn ends_of_a_sine_by_themselves(rt: HostRuntime) {
         (sine_low(-68719476736), sine_high(-68719476736)),
         (-274877906944, -274877906943)
     );
-}
-
-#[test]
-fn products_with_a_half(rt: HostRuntime) {
-    let half = 137438953472;
-    assert_eq!(rt; (product_down(3, half), product_up(3, half)), (1, 2));
-    assert_eq!(rt; (product_down(-3, half), product_up(-3, half)), (-2, -1));
-    assert_eq!(rt; (product_down(4, half), product_up(4, half)), (2, 2));
 }

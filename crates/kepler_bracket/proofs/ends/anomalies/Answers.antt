@@ -7,7 +7,7 @@ use Rattle.trig_enclose.proofs.Casts.{plain as plain64}
 use Rattle.fix_interval.specs.Ends.{Ends}
 use Rattle.fix_interval.specs.Intervals.{ends}
 use Rattle.fix_interval.proofs.EndSums.{same_ends}
-use Rattle.kepler_laws.specs.Anomalies.{IsEccentric, IsHalf, is_below, is_above, bracket, IsGreatest, IsLeast}
+use Rattle.kepler_laws.specs.Anomalies.{IsEccentricityInTurns, IsWithinHalfTurn, is_below, is_above, bracket, IsGreatest, IsLeast}
 use Rattle.kepler_laws.proofs.Anomalies.{anomalies_enclose, anomalies_isotone}
 use Rattle.kepler_laws.proofs.Wraps.{anomalies_ordered}
 use Rattle.kepler_bracket.proofs.Probes.{ends-are}
@@ -52,8 +52,8 @@ invariant_of-result c =
     let ud : SFits w128 (u +ℤ pos 1) = omega (arith, ints) in
     let low = ap (λ z. to_z w128 (of_z w128 (z -ℤ pos 1))) (ap (λ z. to_z w128 (of_z w128 z)) (plain64 l64) ∙ plain l128) ∙ plain ld in
     let high = ap (λ z. to_z w128 (of_z w128 (z +ℤ pos 1))) (ap (λ z. to_z w128 (of_z w128 z)) (plain64 u64) ∙ plain u128) ∙ plain ud in
-    let i : IsEccentric (ends c.args.eps) = record { low = c.requires.eps_low; ordered = c.args.eps.ordered; high = c.requires.eps_high } in
-    let n : IsHalf (ends c.args.m) = record { low = c.requires.half.low; ordered = c.args.m.ordered; high = c.requires.half.high } in
+    let i : IsEccentricityInTurns (ends c.args.eps) = record { low = c.requires.eps_low; ordered = c.args.eps.ordered; high = c.requires.eps_high } in
+    let n : IsWithinHalfTurn (ends c.args.m) = record { low = c.requires.half.low; ordered = c.args.m.ordered; high = c.requires.half.high } in
     record { ordered = ordered_as (same_ends low high ∙ ends-are (ends c.args.eps) (ends c.args.m) l u i n g k) (anomalies_ordered (ends c.args.eps) (ends c.args.m) i n) }
 
 pub returns-clause-lower : goal.returns-clause-lower
@@ -80,8 +80,8 @@ returns-clause-lower c =
     let ud : SFits w128 (u +ℤ pos 1) = omega (arith, ints) in
     let low = ap (λ z. to_z w128 (of_z w128 (z -ℤ pos 1))) (ap (λ z. to_z w128 (of_z w128 z)) (plain64 l64) ∙ plain l128) ∙ plain ld in
     let high = ap (λ z. to_z w128 (of_z w128 (z +ℤ pos 1))) (ap (λ z. to_z w128 (of_z w128 z)) (plain64 u64) ∙ plain u128) ∙ plain ud in
-    let i : IsEccentric (ends c.args.eps) = record { low = c.requires.eps_low; ordered = c.args.eps.ordered; high = c.requires.eps_high } in
-    let n : IsHalf (ends c.args.m) = record { low = c.requires.half.low; ordered = c.args.m.ordered; high = c.requires.half.high } in
+    let i : IsEccentricityInTurns (ends c.args.eps) = record { low = c.requires.eps_low; ordered = c.args.eps.ordered; high = c.requires.eps_high } in
+    let n : IsWithinHalfTurn (ends c.args.m) = record { low = c.requires.half.low; ordered = c.args.m.ordered; high = c.requires.half.high } in
     subst (λ z. IsGreatest (is_below (ends c.args.eps) c.args.m.lo) (neg_ℤ bracket) bracket z) (sym (ap (λ z. z +ℤ pos 1) low ∙ less_more l)) g
 
 pub returns-clause-upper : goal.returns-clause-upper
@@ -108,8 +108,8 @@ returns-clause-upper c =
     let ud : SFits w128 (u +ℤ pos 1) = omega (arith, ints) in
     let low = ap (λ z. to_z w128 (of_z w128 (z -ℤ pos 1))) (ap (λ z. to_z w128 (of_z w128 z)) (plain64 l64) ∙ plain l128) ∙ plain ld in
     let high = ap (λ z. to_z w128 (of_z w128 (z +ℤ pos 1))) (ap (λ z. to_z w128 (of_z w128 z)) (plain64 u64) ∙ plain u128) ∙ plain ud in
-    let i : IsEccentric (ends c.args.eps) = record { low = c.requires.eps_low; ordered = c.args.eps.ordered; high = c.requires.eps_high } in
-    let n : IsHalf (ends c.args.m) = record { low = c.requires.half.low; ordered = c.args.m.ordered; high = c.requires.half.high } in
+    let i : IsEccentricityInTurns (ends c.args.eps) = record { low = c.requires.eps_low; ordered = c.args.eps.ordered; high = c.requires.eps_high } in
+    let n : IsWithinHalfTurn (ends c.args.m) = record { low = c.requires.half.low; ordered = c.args.m.ordered; high = c.requires.half.high } in
     subst (λ z. IsLeast (is_above (ends c.args.eps) c.args.m.hi) (neg_ℤ bracket) bracket z) (sym (ap (λ z. z -ℤ pos 1) high ∙ more_less u)) k
 
 pub returns-clause-exact : goal.returns-clause-exact
@@ -136,14 +136,14 @@ returns-clause-exact c =
     let ud : SFits w128 (u +ℤ pos 1) = omega (arith, ints) in
     let low = ap (λ z. to_z w128 (of_z w128 (z -ℤ pos 1))) (ap (λ z. to_z w128 (of_z w128 z)) (plain64 l64) ∙ plain l128) ∙ plain ld in
     let high = ap (λ z. to_z w128 (of_z w128 (z +ℤ pos 1))) (ap (λ z. to_z w128 (of_z w128 z)) (plain64 u64) ∙ plain u128) ∙ plain ud in
-    let i : IsEccentric (ends c.args.eps) = record { low = c.requires.eps_low; ordered = c.args.eps.ordered; high = c.requires.eps_high } in
-    let n : IsHalf (ends c.args.m) = record { low = c.requires.half.low; ordered = c.args.m.ordered; high = c.requires.half.high } in
+    let i : IsEccentricityInTurns (ends c.args.eps) = record { low = c.requires.eps_low; ordered = c.args.eps.ordered; high = c.requires.eps_high } in
+    let n : IsWithinHalfTurn (ends c.args.m) = record { low = c.requires.half.low; ordered = c.args.m.ordered; high = c.requires.half.high } in
     same_ends low high ∙ ends-are (ends c.args.eps) (ends c.args.m) l u i n g k
 
 pub returns-clause-encloses : goal.returns-clause-encloses
 returns-clause-encloses c =
-    let i : IsEccentric (ends c.args.eps) = record { low = c.requires.eps_low; ordered = c.args.eps.ordered; high = c.requires.eps_high } in
-    let n : IsHalf (ends c.args.m) = record { low = c.requires.half.low; ordered = c.args.m.ordered; high = c.requires.half.high } in
+    let i : IsEccentricityInTurns (ends c.args.eps) = record { low = c.requires.eps_low; ordered = c.args.eps.ordered; high = c.requires.eps_high } in
+    let n : IsWithinHalfTurn (ends c.args.m) = record { low = c.requires.half.low; ordered = c.args.m.ordered; high = c.requires.half.high } in
     anomalies_enclose (returns-clause-exact c) i n
 
 pub returns-clause-isotone : goal.returns-clause-isotone

@@ -4,11 +4,11 @@ use mir.Syntax.{w64}
 use Rattle.std.proofs.lemmas.Int.{ints}
 use lib.Signed.{le_z}
 use Rattle.whole_numbers.specs.Rounding.{ceil_of}
-use Rattle.sine_laws.specs.Quarter.{point}
-use Rattle.sine_laws.specs.SinCos.{sin_cos_of}
+use Rattle.trig_laws.specs.SinCos.{sin_cos_of}
 use Rattle.trig_enclose.proofs.Casts.{plain}
 use Rattle.kepler_laws.proofs.Means.{mean-low}
 use Rattle.kepler_bracket.proofs.mean.mean_low.Goals as goal
+use Rattle.fix_interval.specs.Ranges.{point}
 
 pub returns-then-s-ge0-clause-value : goal.returns-then-s-ge0-clause-value
 returns-then-s-ge0-clause-value c =

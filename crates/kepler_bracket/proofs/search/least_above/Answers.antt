@@ -1,56 +1,30 @@
-use Rattle.std.proofs.Common.{rules, arith, ◌≡◌, ℤ, pos, ◌-ℤ◌, to_z}
+use Rattle.std.proofs.Common.{rules, arith, pos, neg_ℤ, ◌+ℤ◌, to_z, of_z}
 use mir.Val.{SFits}
 use mir.Syntax.{w64}
-use Rattle.std.proofs.lemmas.Int.{ints, clamps}
+use Rattle.std.proofs.lemmas.Int.{ints}
 use Rattle.trig_enclose.proofs.Casts.{plain}
-use Rattle.kepler_bracket.proofs.Probes.{above_first, above_last, least}
+use Rattle.kepler_laws.specs.Anomalies.{bracket, is_above, IsLeast}
+use Rattle.kepler_bracket.specs.Eccentricities.{eccentricity_ends}
+use Rattle.kepler_bracket.proofs.Probes.{above_first, above_last, least, negated}
 use Rattle.kepler_bracket.proofs.search.least_above.Goals as goal
 
-pub loop-high-init : goal.loop-high-init
-loop-high-init c =
-    let p : SFits w64 c.args.p = search rules in
-    record {
-      from = record { le = tt };
-      ordered = record { lt = tt };
-      to = record { le = tt };
-      fails = rw (plain p) (above_first c.args.eps c.args.p c.requires.low);
-      holds = rw (plain p) (above_last c.args.eps c.args.p c.requires.high);
-    }
+pub last_passing-requires-clause-passes : goal.last_passing-requires-clause-passes
+last_passing-requires-clause-passes c =
+    let p : SFits w64 c.args.mean = search rules in
+    rw (plain p) (negated (above_first c.args.eps c.args.mean c.requires.low))
 
-pub overflow_sub-probe : goal.overflow_sub-probe
-overflow_sub-probe c =
-    let i = c.loop-high.invariant in
-    let p : SFits w64 c.args.p = search rules in
-    let m : SFits w64 c.mean_low-mean.result = search rules in
-    let k : SFits w64 c.inside-k.result = search rules in
-    let a = c.inside-k.ensures.above in
-    let b = c.inside-k.ensures.below in
-    let ml = c.mean_low-mean.ensures.low in
-    let mh = c.mean_low-mean.ensures.high in
-    let d : SFits w64 (c.mean_low-mean.result -ℤ c.args.p) = omega (arith, ints) in
-    let x : SFits w64 c.max.result = search rules in
-    let e = rw (plain p, plain m, plain d) at c.max.ensures.value in
-    rw (plain k, plain x) (omega (arith, ints, clamps, i.from, i.to, a, b, e))
-
-pub overflow_add-probe : goal.overflow_add-probe
-overflow_add-probe c =
-    let i = c.loop-high.invariant in
-    let p : SFits w64 c.args.p = search rules in
-    let m : SFits w64 c.mean_low-mean.result = search rules in
-    let k : SFits w64 c.inside-k.result = search rules in
-    let a = c.inside-k.ensures.above in
-    let b = c.inside-k.ensures.below in
-    let ml = c.mean_low-mean.ensures.low in
-    let mh = c.mean_low-mean.ensures.high in
-    let d : SFits w64 (c.args.p -ℤ c.mean_low-mean.result) = omega (arith, ints) in
-    rw (plain p, plain m, plain k, plain d) (omega (arith, ints, i.from, i.to, a, b))
+pub last_passing-requires-clause-fails : goal.last_passing-requires-clause-fails
+last_passing-requires-clause-fails c =
+    let p : SFits w64 c.args.mean = search rules in
+    rw (plain p) (negated (above_last c.args.eps c.args.mean c.requires.high))
 
 pub returns : goal.returns
 returns c =
-    let i = c.loop-high.invariant in
-    let p : SFits w64 c.args.p = search rules in
-    let low : ℤ = to_z w64 c.loop-high.low-bits in
-    let high : ℤ = to_z w64 c.loop-high.high-bits in
-    let d : SFits w64 (high -ℤ low) = omega (arith, ints, i.from, i.to, i.ordered) in
-    let n : low ≡ high -ℤ pos 1 = omega (arith, ints, i.from, i.to, i.ordered, plain d, c.loop-high-test.false) in
-    least c.args.eps c.args.p low high i.from i.to n (rw (plain p) at i.fails) (rw (plain p) at i.holds)
+    let p : SFits w64 c.args.mean = search rules in
+    let r : SFits w64 c.last_passing.result = search rules in
+    let h = c.last_passing.ensures in
+    let low = h.low in
+    let high = h.high in
+    let n : SFits w64 (c.last_passing.result +ℤ pos 1) = omega (arith, ints) in
+    let found : IsLeast (is_above (eccentricity_ends c.args.eps) (to_z w64 (of_z w64 c.args.mean))) (neg_ℤ bracket) bracket (c.last_passing.result +ℤ pos 1) = least c.args.eps (to_z w64 (of_z w64 c.args.mean)) c.last_passing.result h in
+    rw (plain r, plain n) (rw (plain p) at found)

@@ -1,10 +1,10 @@
 use Rattle.std.proofs.Common.{rules, ap, ◌∙◌}
 use mir.Val.{SFits}
-use mir.Syntax.{w128}
-use Rattle.whole_numbers.proofs.Casts.{plain}
+use mir.Syntax.{w64}
+use Rattle.trig_enclose.proofs.Casts.{plain}
 use Rattle.fix_interval.specs.Ends.{Ends}
 use Rattle.fix_interval.specs.Intervals.{ends}
-use Rattle.sine_laws.specs.SinCos.{sin_cos_of}
+use Rattle.trig_laws.specs.SinCos.{sin_cos_of}
 use Rattle.kepler_laws.specs.Anomalies.{anomalies_of}
 use Rattle.kepler_laws.specs.EccentricSine.{wrapped_of, wrap_pair}
 use Rattle.kepler_bracket.proofs.wraps.at_wrap.Goals as goal
@@ -12,6 +12,6 @@ use Rattle.kepler_bracket.proofs.wraps.at_wrap.Goals as goal
 pub returns : goal.returns
 unfolding wrap_pair
 returns c =
-    let f : SFits w128 c.args.w = search rules in
+    let f : SFits w64 c.args.w = search rules in
     let e = c.wrapped.ensures.exact ∙ ap (λ z. wrapped_of (ends c.args.m) z) (plain f) in
     c.sin_cos.ensures.exact ∙ ap sin_cos_of (c.anomalies.ensures.exact ∙ ap (λ (a : Ends). anomalies_of (ends c.args.eps) a) e)

@@ -1,4 +1,4 @@
-use Rattle.sine_laws.specs.Chains.{nest_end}
+use Rattle.trig_laws.specs.Chains.{nest_end}
 use Rattle.trig_enclose.proofs.nested.sine_nest_high.Goals as goal
 
 pub returns-clause-value : goal.returns-clause-value

@@ -3,7 +3,7 @@ use Rattle.std.proofs.lemmas.Int.{ints, clamps}
 use Rattle.fix_interval.specs.Bounds.{clamp_of}
 use Rattle.fix_interval.specs.Sums.{sub_of}
 use Rattle.fix_interval.proofs.EndSums.{same_ends}
-use Rattle.sine_laws.specs.Quarter.{left_of}
+use Rattle.trig_laws.specs.Quarter.{left_of}
 use Rattle.trig_enclose.proofs.quarters.left.Goals as goal
 
 pub invariant_of-result : goal.invariant_of-result

@@ -1,8 +1,7 @@
 use Rattle.std.proofs.Common.{arith}
 use Rattle.std.proofs.lemmas.Int.{ints}
-use Rattle.fix_interval.specs.Sums.{sub_of}
+use Rattle.fix_interval.specs.Sums.{sub_of, neg_of}
 use Rattle.fix_interval.proofs.EndSums.{same_ends}
-use Rattle.sine_laws.specs.SinCos.{neg_of}
 use Rattle.trig_enclose.proofs.quarters.negative.Goals as goal
 
 pub returns : goal.returns

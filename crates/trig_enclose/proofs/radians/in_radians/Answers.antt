@@ -3,9 +3,10 @@ use mir.Val.{SFits}
 use mir.Syntax.{w64}
 use Rattle.whole_numbers.specs.Rounding.{floor_of, ceil_of}
 use Rattle.fix_interval.proofs.EndSums.{same_ends}
-use Rattle.sine_laws.specs.Quarter.{scale_of, turn_parts}
-use Rattle.sine_laws.proofs.Points.{radians_within}
-use Rattle.trig_enclose.specs.Shorts.{short_ends}
+use Rattle.fix_interval.specs.Quotients.{scale_of}
+use Rattle.trig_laws.specs.Quarter.{turn_parts}
+use Rattle.trig_laws.proofs.Points.{radians_within}
+use Rattle.fix_interval.specs.Intervals.{ends_64}
 use Rattle.trig_enclose.proofs.Casts.{plain}
 use Rattle.trig_enclose.proofs.radians.in_radians.Goals as goal
 
@@ -21,4 +22,4 @@ returns-clause-exact c =
     (plain up ∙ c.radians_up.ensures ∙ ap (λ z. ceil_of (z *ℤ pos turn_parts) (10 ^ 13)) (plain hi))
 
 pub returns-clause-small : goal.returns-clause-small
-returns-clause-small c = rw (returns-clause-exact c) (radians_within (short_ends c.args.r) c.requires)
+returns-clause-small c = rw (returns-clause-exact c) (radians_within (ends_64 c.args.r) c.requires)

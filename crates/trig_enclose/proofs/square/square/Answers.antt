@@ -2,8 +2,8 @@ use Rattle.std.proofs.Common.{rules, arith, sym, ◌∙◌, ◌≡◌, pos, ◌-
 use mir.Val.{SFits}
 use mir.Syntax.{w64}
 use Rattle.std.proofs.lemmas.Int.{ints}
-use Rattle.sine_laws.proofs.Chains.{sqr-naturals, sqr-negatives, sqr-mixed}
-use Rattle.trig_enclose.specs.Shorts.{short_ends}
+use Rattle.trig_laws.proofs.Chains.{sqr-naturals, sqr-negatives, sqr-mixed}
+use Rattle.fix_interval.specs.Intervals.{ends_64}
 use Rattle.trig_enclose.proofs.Casts.{plain}
 use Rattle.trig_enclose.proofs.square.square.Goals as goal
 
@@ -14,7 +14,7 @@ returns-then-x-ge0 c =
     let e = rw (plain lo, plain hi) at c.squares.ensures in
     let some = rw (plain lo) at c.if-x-ge0.true in
     let o = c.args.x.ordered in
-    e ∙ sym (sqr-naturals (short_ends c.args.x) (unsigned_abs c.args.x.lo) (unsigned_abs c.args.x.hi) (omega (arith, ints)) (omega (arith, ints)) (omega (arith, ints)))
+    e ∙ sym (sqr-naturals (ends_64 c.args.x) (unsigned_abs c.args.x.lo) (unsigned_abs c.args.x.hi) (omega (arith, ints)) (omega (arith, ints)) (omega (arith, ints)))
 
 pub returns-then-x-le0 : goal.returns-then-x-le0
 returns-then-x-le0 c =
@@ -25,7 +25,7 @@ returns-then-x-le0 c =
     let e = rw (plain lo, plain hi, plain down, plain up) at c.squares-then-x-le0.ensures in
     let some = rw (plain hi) at c.if-x-le0.true in
     let o = c.args.x.ordered in
-    e ∙ sym (sqr-negatives (short_ends c.args.x) (unsigned_abs (pos 0 -ℤ c.args.x.hi)) (unsigned_abs (pos 0 -ℤ c.args.x.lo)) (omega (arith, ints)) (omega (arith, ints)) (omega (arith, ints)))
+    e ∙ sym (sqr-negatives (ends_64 c.args.x) (unsigned_abs (pos 0 -ℤ c.args.x.hi)) (unsigned_abs (pos 0 -ℤ c.args.x.lo)) (omega (arith, ints)) (omega (arith, ints)) (omega (arith, ints)))
 
 pub returns-else-x-le0 : goal.returns-else-x-le0
 returns-else-x-le0 c =
@@ -35,4 +35,4 @@ returns-else-x-le0 c =
     let below = rw (plain lo) at c.if-x-ge0.false in
     let above = rw (plain hi) at c.if-x-le0.false in
     let m : c.max.result ≡ max (unsigned_abs (pos 0 -ℤ c.args.x.lo)) (unsigned_abs c.args.x.hi) = rw (plain lo, plain hi, plain up) at c.max.ensures in
-    c.squares-else-x-le0.ensures ∙ sym (sqr-mixed (short_ends c.args.x) (unsigned_abs (pos 0 -ℤ c.args.x.lo)) (unsigned_abs c.args.x.hi) c.max.result (omega (arith, ints)) (omega (arith, ints)) m)
+    c.squares-else-x-le0.ensures ∙ sym (sqr-mixed (ends_64 c.args.x) (unsigned_abs (pos 0 -ℤ c.args.x.lo)) (unsigned_abs c.args.x.hi) c.max.result (omega (arith, ints)) (omega (arith, ints)) m)

@@ -1,0 +1,42 @@
+use Rattle.std.proofs.Common.{arith, rules, ap₂, ◌∙◌, ◌≤ℤ◌, pos}
+use mir.Val.{SFits}
+use mir.Syntax.{w128}
+use Rattle.std.proofs.lemmas.Int.{ints}
+use Rattle.std.specs.Int.{int_max}
+use Rattle.whole_numbers.proofs.Casts.{plain}
+use Rattle.fix_interval.specs.Intervals.{mag_of}
+use Rattle.fix_interval.proofs.SmallProducts.{product_fits, small_product}
+use Rattle.fix_interval.proofs.EndCorners.{greatest-not_negative, greatest-not_negative_below, greatest-not_positive, greatest-not_positive_below, greatest-mixed}
+use Rattle.fix_interval.proofs.products.greatest_product.Goals as goal
+
+pub overflow_mul-result-else-b-ge0 : goal.overflow_mul-result-else-b-ge0
+overflow_mul-result-else-b-ge0 c = product_fits c.args.a.lo c.args.b.hi (mag_of c.args.a) (mag_of c.args.b) (search rules) (search rules) (omega arith) (omega arith) c.requires
+
+pub overflow_mul-result-then-b-ge0-2 : goal.overflow_mul-result-then-b-ge0-2
+overflow_mul-result-then-b-ge0-2 c = product_fits c.args.a.hi c.args.b.lo (mag_of c.args.a) (mag_of c.args.b) (search rules) (search rules) (omega arith) (omega arith) c.requires
+
+pub overflow_mul-result-else-b-ge0-2 : goal.overflow_mul-result-else-b-ge0-2
+overflow_mul-result-else-b-ge0-2 c = product_fits c.args.a.lo c.args.b.lo (mag_of c.args.a) (mag_of c.args.b) (search rules) (search rules) (omega arith) (omega arith) c.requires
+
+pub overflow_mul-a : goal.overflow_mul-a
+overflow_mul-a c = product_fits c.args.a.lo c.args.b.lo (mag_of c.args.a) (mag_of c.args.b) (search rules) (search rules) (omega arith) (omega arith) c.requires
+
+pub overflow_mul-a-else-a-le0 : goal.overflow_mul-a-else-a-le0
+overflow_mul-a-else-a-le0 c = product_fits c.args.a.hi c.args.b.hi (mag_of c.args.a) (mag_of c.args.b) (search rules) (search rules) (omega arith) (omega arith) c.requires
+
+pub returns-then-b-ge0 : goal.returns-then-b-ge0
+returns-then-b-ge0 c = small_product c.args.a.hi c.args.b.hi (mag_of c.args.a) (mag_of c.args.b) (search rules) (search rules) (omega arith) (omega arith) c.requires ∙ greatest-not_negative c.args.a.lo c.args.a.hi c.args.b.lo c.args.b.hi (omega (arith, ints)) c.args.a.ordered (omega (arith, ints)) c.args.b.ordered
+
+pub returns-else-b-ge0 : goal.returns-else-b-ge0
+returns-else-b-ge0 c = small_product c.args.a.lo c.args.b.hi (mag_of c.args.a) (mag_of c.args.b) (search rules) (search rules) (omega arith) (omega arith) c.requires ∙ greatest-not_negative_below c.args.a.lo c.args.a.hi c.args.b.lo c.args.b.hi (omega (arith, ints)) c.args.a.ordered (omega (arith, ints)) c.args.b.ordered
+
+pub returns-then-b-ge0-2 : goal.returns-then-b-ge0-2
+returns-then-b-ge0-2 c = small_product c.args.a.hi c.args.b.lo (mag_of c.args.a) (mag_of c.args.b) (search rules) (search rules) (omega arith) (omega arith) c.requires ∙ greatest-not_positive c.args.a.lo c.args.a.hi c.args.b.lo c.args.b.hi (omega (arith, ints)) c.args.a.ordered (omega (arith, ints)) c.args.b.ordered
+
+pub returns-else-b-ge0-2 : goal.returns-else-b-ge0-2
+returns-else-b-ge0-2 c = small_product c.args.a.lo c.args.b.lo (mag_of c.args.a) (mag_of c.args.b) (search rules) (search rules) (omega arith) (omega arith) c.requires ∙ greatest-not_positive_below c.args.a.lo c.args.a.hi c.args.b.lo c.args.b.hi (omega (arith, ints)) c.args.a.ordered (omega (arith, ints)) c.args.b.ordered
+
+pub returns-else-a-le0 : goal.returns-else-a-le0
+returns-else-a-le0 c =
+    let m : SFits w128 c.max.result = search rules in
+    plain m ∙ c.max.ensures.value ∙ ap₂ int_max (small_product c.args.a.lo c.args.b.lo (mag_of c.args.a) (mag_of c.args.b) (search rules) (search rules) (omega arith) (omega arith) c.requires) (small_product c.args.a.hi c.args.b.hi (mag_of c.args.a) (mag_of c.args.b) (search rules) (search rules) (omega arith) (omega arith) c.requires) ∙ greatest-mixed c.args.a.lo c.args.a.hi c.args.b.lo c.args.b.hi (omega (arith, ints)) (omega (arith, ints)) c.args.b.ordered

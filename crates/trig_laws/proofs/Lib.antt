@@ -1,0 +1,12 @@
+pub mod Nested
+pub mod Eighths
+pub mod Chains
+pub mod Quarters
+pub mod Left
+pub mod Isotones
+pub mod Encloses
+pub mod Ends
+pub mod Close
+pub mod Points
+pub mod Narrow
+pub mod Periods
