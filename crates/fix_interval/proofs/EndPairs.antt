@@ -1,5 +1,5 @@
 -- Pairs of ends: their hulls hold what either holds, and are isotone, also over a range of whole numbers.
-use Rattle.std.specs.Prelude.{◌≡◌, ℕ, zero, suc, ℤ, pos, refl, ◌+ℤ◌, ◌-ℤ◌, ◌≤ℤ◌, ◌<ℤ◌, Bool, true, false, unsigned_abs, ◌⊎◌}
+use Rattle.std.specs.Prelude.{◌≡◌, ℕ, zero, suc, ℤ, pos, refl, ◌+ℤ◌, ◌-ℤ◌, ◌≤ℤ◌, Bool, true, false, unsigned_abs, ◌⊎◌}
 use Rattle.std.proofs.Common.{arith, ap, ◌∙◌, subst, inl, inr}
 use Rattle.std.proofs.lemmas.Int.{ints, clamps}
 use lib.Signed.{le_z}

@@ -17,7 +17,7 @@ use Rattle.whole_numbers.proofs.Roots.{root_of_high, root_of_mono, root_of-uniqu
 use Rattle.fix_interval.specs.Ends.{Ends, IsInside, IsNarrow}
 use Rattle.fix_interval.specs.Products.{mul_of, mul_wide_of, narrow76_of, scale_int_of, sqr_wide_of}
 use Rattle.fix_interval.specs.Quotients.{div_int_of, scale_of}
-use Rattle.fix_interval.specs.Ranges.{point, around}
+use Rattle.fix_interval.specs.Ranges.{around}
 use Rattle.fix_interval.specs.Roots.{sqrt_of}
 use Rattle.fix_interval.specs.Sums.{add_of, sub_of}
 use Rattle.fix_interval.proofs.EndProducts.{pick_min, pick_max}

@@ -1,7 +1,7 @@
 // Products and squares of intervals, wide and rounded outward.
 
 ghost use Rattle.std.specs.Prelude.{◌≡◌, ℕ, pos, ◌+◌, ◌^◌, ◌*◌, ◌≤◌, ◌≤ℤ◌, if◌then◌else◌, ◌&&◌, IsSome, IfSome};
-ghost use Rattle.std.specs.Int.{int_min};
+ghost use Rattle.std.specs.Int.{int_min, int_max};
 ghost use Rattle.std.specs.Option.{option_map};
 ghost use lib.Signed.{le_z};
 ghost use Rattle.whole_numbers.specs.Corners.{least_corner, greatest_corner};
@@ -135,6 +135,17 @@ pub fn scale_int(a: Iv, first: i64, last: i64) -> Iv
     )
 }
 
+/// From the least of four numbers to the greatest.
+fn hull_of_four(p: i128, q: i128, r: i128, t: i128) -> Iv
+    ensures lo { result.lo ≡ int_min (int_min p q) (int_min r t) }
+    ensures hi { result.hi ≡ int_max (int_max p q) (int_max r t) }
+{
+    Iv {
+        lo: p.min(q).min(r.min(t)),
+        hi: p.max(q).max(r.max(t)),
+    }
+}
+
 /// The product as `mul_wide` answers it, and `None` exactly where a product of two ends is no `i128`.
 pub fn checked_mul(a: Iv, b: Iv) -> Option<Iv>
     ensures exact { option_map ends result ≡ checked_mul_of (ends a) (ends b) }
@@ -150,8 +161,5 @@ pub fn checked_mul(a: Iv, b: Iv) -> Option<Iv>
     let low_high = a.lo.checked_mul(b.hi)?;
     let high_low = a.hi.checked_mul(b.lo)?;
     let high_high = a.hi.checked_mul(b.hi)?;
-    Some(Iv {
-        lo: low_low.min(low_high).min(high_low.min(high_high)),
-        hi: low_low.max(low_high).max(high_low.max(high_high)),
-    })
+    Some(hull_of_four(low_low, low_high, high_low, high_high))
 }

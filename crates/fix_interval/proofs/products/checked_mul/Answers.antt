@@ -7,7 +7,6 @@ use Rattle.whole_numbers.specs.Corners.{least_corner, greatest_corner}
 use Rattle.whole_numbers.proofs.Casts.{plain}
 use Rattle.fix_interval.specs.Intervals.{ends}
 use Rattle.fix_interval.specs.Products.{is_i128, mul_wide_of}
-use Rattle.fix_interval.proofs.SmallProducts.{spans}
 use Rattle.fix_interval.proofs.EndSums.{same_ends}
 use Rattle.fix_interval.proofs.EndProducts.{mul_wide_encloses, mul_wide_isotone}
 use Rattle.fix_interval.proofs.CheckedProducts.{fits-is_i128, unfit-is_i128, checked-some, checked-none_low_low, checked-none_low_high, checked-none_high_low, checked-none_high_high, checked_isotone_some}
@@ -42,7 +41,7 @@ pub returns-in_err-high_high-clause-isotone_some : goal.returns-in_err-high_high
 returns-in_err-high_high-clause-isotone_some c = checked_isotone_some _ (returns-in_err-high_high-clause-exact c)
 
 -- the least product of ends, as the program finds it
-low : (c : goal.After-result-1) → to_z w128 (of_z w128 c.min-3.result) ≡ least_corner c.args.a.lo c.args.a.hi c.args.b.lo c.args.b.hi
+low : (c : goal.After-hull_of_four) → c.hull_of_four.result.lo ≡ least_corner c.args.a.lo c.args.a.hi c.args.b.lo c.args.b.hi
 low c =
     let al : SFits w128 c.args.a.lo = search rules in
     let ah : SFits w128 c.args.a.hi = search rules in
@@ -56,13 +55,10 @@ low c =
     let lh = plain flh ∙ c.in_ok-low_high.ensures.1 ∙ ap₂ ◌*ℤ◌ (plain al) (plain bh) in
     let hl = plain fhl ∙ c.in_ok-high_low.ensures.1 ∙ ap₂ ◌*ℤ◌ (plain ah) (plain bl) in
     let hh = plain fhh ∙ c.in_ok-high_high.ensures.1 ∙ ap₂ ◌*ℤ◌ (plain ah) (plain bh) in
-    let m1 : SFits w128 c.min.result = search rules in
-    let m2 : SFits w128 c.min-2.result = search rules in
-    let m3 : SFits w128 c.min-3.result = search rules in
-    plain m3 ∙ c.min-3.ensures.value ∙ ap₂ int_min (plain m1 ∙ c.min.ensures.value ∙ ap₂ int_min ll lh) (plain m2 ∙ c.min-2.ensures.value ∙ ap₂ int_min hl hh)
+    c.hull_of_four.ensures.lo ∙ ap₂ int_min (ap₂ int_min ll lh) (ap₂ int_min hl hh)
 
 -- and the greatest
-high : (c : goal.After-result-1) → to_z w128 (of_z w128 c.max-3.result) ≡ greatest_corner c.args.a.lo c.args.a.hi c.args.b.lo c.args.b.hi
+high : (c : goal.After-hull_of_four) → c.hull_of_four.result.hi ≡ greatest_corner c.args.a.lo c.args.a.hi c.args.b.lo c.args.b.hi
 high c =
     let al : SFits w128 c.args.a.lo = search rules in
     let ah : SFits w128 c.args.a.hi = search rules in
@@ -76,10 +72,7 @@ high c =
     let lh = plain flh ∙ c.in_ok-low_high.ensures.1 ∙ ap₂ ◌*ℤ◌ (plain al) (plain bh) in
     let hl = plain fhl ∙ c.in_ok-high_low.ensures.1 ∙ ap₂ ◌*ℤ◌ (plain ah) (plain bl) in
     let hh = plain fhh ∙ c.in_ok-high_high.ensures.1 ∙ ap₂ ◌*ℤ◌ (plain ah) (plain bh) in
-    let n1 : SFits w128 c.max.result = search rules in
-    let n2 : SFits w128 c.max-2.result = search rules in
-    let n3 : SFits w128 c.max-3.result = search rules in
-    plain n3 ∙ c.max-3.ensures.value ∙ ap₂ int_max (plain n1 ∙ c.max.ensures.value ∙ ap₂ int_max ll lh) (plain n2 ∙ c.max-2.ensures.value ∙ ap₂ int_max hl hh)
+    c.hull_of_four.ensures.hi ∙ ap₂ int_max (ap₂ int_max ll lh) (ap₂ int_max hl hh)
 
 -- a product that fits as the program reads it passes the test
 passes : (x y : ℤ) → SFits w128 x → SFits w128 y → FitsSigned w128 (to_z w128 (of_z w128 x) *ℤ to_z w128 (of_z w128 y)) → is_i128 (x *ℤ y) ≡ true
@@ -103,11 +96,3 @@ returns-clause-encloses c = mul_wide_encloses (same_ends (low c) (high c))
 pub returns-clause-isotone : goal.returns-clause-isotone
 unfolding mul_wide_of
 returns-clause-isotone c = mul_wide_isotone (same_ends (low c) (high c))
-
-pub invariant_of-result : goal.invariant_of-result
-invariant_of-result c =
-    let m : SFits w128 c.min.result = search rules in
-    let m3 : SFits w128 c.min-3.result = search rules in
-    let n : SFits w128 c.max.result = search rules in
-    let n3 : SFits w128 c.max-3.result = search rules in
-    rw (plain m3, plain n3) record { ordered = spans c.min-3.ensures.self_bound (plain m) c.min.ensures.self_bound c.max.ensures.self_bound (plain n) c.max-3.ensures.self_bound }

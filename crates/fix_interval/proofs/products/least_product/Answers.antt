@@ -1,4 +1,4 @@
-use Rattle.std.proofs.Common.{arith, rules, ap₂, ◌∙◌, ◌≤ℤ◌, pos}
+use Rattle.std.proofs.Common.{arith, rules, ap₂, ◌∙◌}
 use mir.Val.{SFits}
 use mir.Syntax.{w128}
 use Rattle.std.proofs.lemmas.Int.{ints}
