@@ -68,7 +68,7 @@ div_int_width {a} k v w h n m = record { width = rounded_width a.lo a.hi k w h (
 
 -- ---- products
 -- two products of a number of at most A and one of at most B, where the numbers are at most v and w apart
-products_apart : (A B v w x y z u : ℤ) → neg_ℤ A ≤ℤ x → x ≤ℤ A → neg_ℤ B ≤ℤ u → u ≤ℤ B → neg_ℤ v ≤ℤ (x -ℤ z) → (x -ℤ z) ≤ℤ v → neg_ℤ w ≤ℤ (y -ℤ u) → (y -ℤ u) ≤ℤ w → (x *ℤ y -ℤ z *ℤ u) ≤ℤ (A *ℤ w +ℤ B *ℤ v)
+pub products_apart : (A B v w x y z u : ℤ) → neg_ℤ A ≤ℤ x → x ≤ℤ A → neg_ℤ B ≤ℤ u → u ≤ℤ B → neg_ℤ v ≤ℤ (x -ℤ z) → (x -ℤ z) ≤ℤ v → neg_ℤ w ≤ℤ (y -ℤ u) → (y -ℤ u) ≤ℤ w → (x *ℤ y -ℤ z *ℤ u) ≤ℤ (A *ℤ w +ℤ B *ℤ v)
 products_apart A B v w x y z u xl xh ul uh vl vh wl wh =
     at_most_scaled (A ∷ B ∷ v ∷ w ∷ x ∷ y ∷ z ∷ u ∷ []) 2 (lit≤ tt)
     ((A -ℤ x) *ℤ ((y -ℤ u) -ℤ neg_ℤ w) +ℤ (x -ℤ neg_ℤ A) *ℤ (w -ℤ (y -ℤ u)) +ℤ ((B -ℤ u) *ℤ ((x -ℤ z) -ℤ neg_ℤ v) +ℤ (u -ℤ neg_ℤ B) *ℤ (v -ℤ (x -ℤ z))))

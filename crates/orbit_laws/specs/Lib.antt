@@ -1,0 +1,4 @@
+pub mod Angles
+pub mod Elements
+pub mod Sizes
+pub mod Positions
