@@ -13,7 +13,7 @@ import sys
 import tempfile
 from pathlib import Path
 
-from callgrind import LONGEST, count, padded
+from callgrind import LONGEST, count, padded, within, worst_of
 
 HERE = Path(__file__).resolve().parent.parent
 PROGRAM = HERE / "crates/raim_cli/out/raim_cli"
@@ -48,8 +48,9 @@ ALMANACS = {
 }
 
 
-def run(path):
-    """The instructions, the most heap in KiB, and the status."""
+def run(path, content):
+    """The instructions, and the most heap in KiB and the status, for an almanac of this content."""
+    path.write_bytes(content)
     words = [str(PROGRAM), "predict", "1414022400000", "1414022401000", str(path)]
     instructions, _, status = count(words)
     with tempfile.NamedTemporaryFile() as heap:
@@ -58,26 +59,23 @@ def run(path):
             stdout=subprocess.DEVNULL, stderr=subprocess.DEVNULL, check=False,
         )
         held = re.findall(r"^mem_heap_B=(\d+)$", Path(heap.name).read_text(), re.M)
-    return instructions, max(map(int, held)) // 1024, status
+    return instructions, (max(map(int, held)) // 1024, status)
+
+
+def show(name, _, each, found):
+    memory, status = found
+    print(f"{name:36} {each:12.1f} a byte       {memory:>6} KiB  status {status}")
 
 
 def main():
     if not PROGRAM.exists():
         sys.exit("build the program first: ./raim")
-    worst = 0.0
     with tempfile.TemporaryDirectory() as folder:
         path = Path(folder) / "almanac"
-        path.write_bytes(b"")
-        least, memory, _ = run(path)
+        least, (memory, _) = run(path, b"")
         print(f"{'empty file':36} {least:>12} instructions {memory:>6} KiB")
-        for name, content in ALMANACS.items():
-            path.write_bytes(content)
-            instructions, memory, status = run(path)
-            each = (instructions - least) / len(content)
-            worst = max(worst, each)
-            print(f"{name:36} {each:12.1f} a byte       {memory:>6} KiB  status {status}")
-    print(f"most: {worst:.1f} instructions a byte; the limit is {MOST_INSTRUCTIONS}")
-    return 0 if worst <= MOST_INSTRUCTIONS else 1
+        worst = worst_of(ALMANACS, least, lambda content: run(path, content), show)
+    return within(worst, MOST_INSTRUCTIONS)
 
 
 sys.exit(main())

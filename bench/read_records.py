@@ -10,7 +10,7 @@ import sys
 import tempfile
 from pathlib import Path
 
-from callgrind import LONGEST, count, padded
+from callgrind import LONGEST, count, padded, within, worst_of
 
 HERE = Path(__file__).resolve().parent.parent
 PROGRAM = HERE / "crates/almanac_reader/out/almanac_reader"
@@ -95,6 +95,13 @@ ALMANACS = {
 }
 
 
+def run(path, form, content):
+    """The instructions, and what the program answers, for an almanac of this content."""
+    path.write_bytes(content)
+    instructions, answer, _ = count([PROGRAM, form, path.name], path.parent)
+    return instructions, answer
+
+
 def main():
     if not PROGRAM.exists():
         sys.exit("build it first: rt run in crates/almanac_reader")
@@ -102,17 +109,14 @@ def main():
     with tempfile.TemporaryDirectory() as folder:
         path = Path(folder) / "almanac"
         for form, almanacs in ALMANACS.items():
-            path.write_bytes(b"")
-            least, _, _ = count([PROGRAM, form, path.name], folder)
-            for name, content in almanacs.items():
-                assert len(content) <= LONGEST, (name, len(content))
-                path.write_bytes(content)
-                instructions, answer, _ = count([PROGRAM, form, path.name], folder)
-                each = (instructions - least) / len(content)
-                worst = max(worst, each)
+            least, _ = run(path, form, b"")
+
+            def show(name, content, each, answer, form=form):
                 print(f"{form:5}{name:36} {len(content):>9} bytes {each:8.1f} a byte   {answer.splitlines()[0]}")
-    print(f"most: {worst:.1f} instructions a byte; the limit is {MOST_INSTRUCTIONS}")
-    return 0 if worst <= MOST_INSTRUCTIONS else 1
+
+            found = worst_of(almanacs, least, lambda content, form=form: run(path, form, content), show)
+            worst = max(worst, found)
+    return within(worst, MOST_INSTRUCTIONS)
 
 
 sys.exit(main())

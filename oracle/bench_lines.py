@@ -9,6 +9,7 @@ Usage: python3 oracle/bench_lines.py [KIND N ..]
 import sys
 
 import intervals as iv
+import orbits
 import sines
 
 WEIGHTS = (1, 3, 5, 7, 11, 13)
@@ -62,6 +63,18 @@ def eccentricity(i):
     return starting_at(scattered(i) % 1367130551, 1)
 
 
+# a record as a SEM file has it
+RECORD = orbits.Record(
+    "0.01", 1414022400000, ("semi30", "0.0056"), ("semi", "-0.0000000026"), "5153.6",
+    ("semi", "-0.6667"), ("semi", "0.25"), ("semi", "0.9165"))
+
+
+def place(i):
+    """Its place seven seconds a call from its time of applicability on, within 90 days."""
+    t = RECORD.toa_ms + i * 7000 % 7_776_000_000
+    return orbits.position(RECORD, t, t)
+
+
 def judgements(first, last, is_open):
     """How many judgements a piece takes: one, and those of its halves where it is open and longer."""
     if first == last or not is_open(first, last):
@@ -82,6 +95,7 @@ KINDS = {
     "decimal": lambda n: summed(n, lambda i: [decimal(i)]),
     "sine": lambda n: summed(n, lambda i: sines.sin_cos(turns(i))),
     "kepler": lambda n: summed(n, lambda i: sines.ecc_sin_cos(turns(i), eccentricity(i))),
+    "position": lambda n: summed(n, place),
     # 2^40 milliseconds, of which the first is undecided; and 65,536 that are each a run
     "island": lambda n: halved(n, 2, judgements(0, 2**40 - 1, lambda first, last: first <= 0 <= last)),
     "alternating": lambda n: halved(n, 65_536, judgements(0, 65_535, lambda first, last: True)),

@@ -7,7 +7,7 @@ ghost use Rattle.fix_interval.specs.Intervals.{ends, mag_of};
 ghost use Rattle.fix_interval.specs.Quotients.{scale_of};
 ghost use Rattle.orbit_laws.specs.Angles.{turns_of, rate_of, above_three_tenths, IsAngle, IsRate};
 
-use fix_interval::{Iv, add, dec76, div_int};
+use fix_interval::{Iv, UNITS_IN_ONE, add, dec76, div_int};
 use raim_model::{Angle, Dec};
 use whole_numbers::rounding::{ceil_by, floor_by};
 
@@ -56,9 +56,9 @@ pub(crate) fn turns(a: &Angle) -> Iv
     ensures { ends result ≡ turns_of a.now }
 {
     match a {
-        Angle::Rad(d) => scale(dec76(d), PARTS, TURN_PARTS * 274877906944),
-        Angle::Semi(d) => div_int(dec76(d), 549755813888),
-        Angle::Semi30(d) => div_int(above(d), 549755813888),
+        Angle::Rad(d) => scale(dec76(d), PARTS, TURN_PARTS * UNITS_IN_ONE),
+        Angle::Semi(d) => div_int(dec76(d), 2 * UNITS_IN_ONE),
+        Angle::Semi30(d) => div_int(above(d), 2 * UNITS_IN_ONE),
     }
 }
 

@@ -2,6 +2,7 @@
 
 ghost use Rattle.std.specs.Prelude.{◌≡◌, pos, ◌*◌, ◌<◌, ◌^◌, ◌≤◌, ◌≤ℤ◌, ◌+◌, ℤ, unsigned_abs};
 ghost use Rattle.std.specs.Int.{int_rem_euclid};
+ghost use Rattle.raim_model.specs.Constants.{week_ms};
 ghost use Rattle.fix_interval.specs.Intervals.{ends, mag_of, IsWithin};
 ghost use Rattle.whole_numbers.specs.Rounding.{floor_of, ceil_of};
 ghost use Rattle.fix_interval.specs.Ends.{IsInside};
@@ -11,7 +12,8 @@ ghost use Rattle.orbit_laws.specs.Elements.{motion_units, product_of, semi_major
 ghost use Rattle.orbit_laws.specs.Sizes.{root_ends, cube_ends, axis_ends, eccentricity_ends};
 
 use crate::angles::{EARTH_RATE, PARTS, TURN_PARTS, scale};
-use fix_interval::{Iv, add, mul, scale_int, sqr_wide, sqrt, sub};
+use fix_interval::{Iv, UNITS_IN_ONE, add, mul, scale_int, sqr_wide, sqrt, sub};
+use raim_model::WEEK_MS;
 use whole_numbers::rounding::{ceil_by, ceil_shift, floor_by, floor_shift};
 
 /// The root of the Earth's gravitational constant over a turn, in units of 2^-132, rounded down.
@@ -22,8 +24,8 @@ const OUTWARD: Iv = Iv { lo: -1, hi: 1 };
 
 /// 1, in units of 2^-76.
 const ONE_76: Iv = Iv {
-    lo: 75557863725914323419136,
-    hi: 75557863725914323419136,
+    lo: UNITS_IN_ONE * UNITS_IN_ONE,
+    hi: UNITS_IN_ONE * UNITS_IN_ONE,
 };
 
 /// The product of what is not negative, `bits` places fewer and rounded outward.
@@ -110,10 +112,18 @@ pub(crate) fn semi_minor_axis(semi_major_axis: Iv, eccentricity: Iv) -> Iv
     mul(semi_major_axis, axis_ratio(eccentricity))
 }
 
+/// The milliseconds from the start of its week up to the millisecond `toa`.
+fn week_time(toa: i64) -> i64
+    ensures value { result ≡ int_rem_euclid toa (pos week_ms) }
+    ensures low { pos 0 ≤ℤ result }
+{
+    toa.rem_euclid(WEEK_MS)
+}
+
 /// The Earth's turn from the start of the week up to the millisecond `toa`, in units of 2^-76.
 pub(crate) fn turned(toa: i64) -> Iv
-    ensures { ends result ≡ scale_int_of (rate_of earth_rate) (int_rem_euclid toa (pos 604800000)) (int_rem_euclid toa (pos 604800000)) }
+    ensures { ends result ≡ scale_int_of (rate_of earth_rate) (int_rem_euclid toa (pos week_ms)) (int_rem_euclid toa (pos week_ms)) }
 {
-    let week_time = toa.rem_euclid(604800000);
-    scale_int(EARTH_RATE, week_time, week_time)
+    let elapsed = week_time(toa);
+    scale_int(EARTH_RATE, elapsed, elapsed)
 }

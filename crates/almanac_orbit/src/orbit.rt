@@ -8,9 +8,9 @@ ghost use Rattle.orbit_laws.specs.Positions.{position_of};
 ghost use Rattle.fix_interval.specs.Vectors.{VectorLies, VectorInside, VectorBelow, VectorNarrow, vector_ends};
 
 use crate::angles::{EARTH_RATE, rate, turns};
-use crate::elements::{semi_major_axis, in_turns, semi_minor_axis, motion, turned};
+use crate::elements::{in_turns, motion, semi_major_axis, semi_minor_axis, turned};
 use crate::kept::Kept;
-use crate::place::{moved, moved_back, in_plane_x, in_plane_y, perifocal_x, perifocal_y, place};
+use crate::place::{in_plane_x, in_plane_y, moved, moved_back, perifocal_x, perifocal_y, place};
 use fix_interval::{Iv, dec56_milli, sub};
 use kepler_bracket::ecc_sin_cos;
 use raim_model::AlmRecord;

@@ -12,6 +12,8 @@ pub enum Kind {
     Sine,
     /// The sine and the cosine of an eccentric anomaly.
     Kepler,
+    /// The place of a satellite by its almanac.
+    Position,
     /// A range of time that is split.
     Halving(Range),
 }
@@ -26,6 +28,7 @@ impl Kind {
             "decimal" => Some(Kind::Interval(IntervalCall::Decimal)),
             "sine" => Some(Kind::Sine),
             "kepler" => Some(Kind::Kepler),
+            "position" => Some(Kind::Position),
             "island" => Some(Kind::Halving(Range::Island)),
             "alternating" => Some(Kind::Halving(Range::Alternating)),
             _ => None,
@@ -41,6 +44,7 @@ impl Kind {
             Kind::Interval(IntervalCall::Decimal) => "decimal",
             Kind::Sine => "sine",
             Kind::Kepler => "kepler",
+            Kind::Position => "position",
             Kind::Halving(Range::Island) => "island",
             Kind::Halving(Range::Alternating) => "alternating",
         }

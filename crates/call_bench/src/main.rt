@@ -6,6 +6,7 @@
 mod halvings;
 mod interval_calls;
 mod kind;
+mod position_calls;
 mod sums;
 mod turn_calls;
 
@@ -16,7 +17,7 @@ use std::io::Print;
 use std::io;
 use std::env;
 
-const USAGE: &str = "call_bench mul|sqr|div|sqrt|decimal|sine|kepler|island|alternating N ..";
+const USAGE: &str = "call_bench mul|sqr|div|sqrt|decimal|sine|kepler|position|island|alternating N ..";
 
 /// Makes `n` calls of a kind, and prints its line.
 fn print_line(rt: &impl Print, alloc: Global, kind: Kind, n: u32) -> io::Result<()> {
@@ -26,6 +27,7 @@ fn print_line(rt: &impl Print, alloc: Global, kind: Kind, n: u32) -> io::Result<
         }
         Kind::Sine => println!(rt; "{} {} {}", kind.name(), n, turn_calls::sum_of_sines(n)),
         Kind::Kepler => println!(rt; "{} {} {}", kind.name(), n, turn_calls::sum_of_anomalies(n)),
+        Kind::Position => println!(rt; "{} {} {}", kind.name(), n, position_calls::sum_of(n)),
         Kind::Halving(range) => match tally_of(alloc, range, n) {
             Ok(tally) => println!(rt;
                 "{} {} runs {} judgements {}",

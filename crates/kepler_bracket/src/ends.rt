@@ -25,6 +25,18 @@ fn eccentricity_of(eps: Iv) -> EccentricityInTurns
     }
 }
 
+/// From `low` to `high`, a unit outward.
+fn unit_outward(low: i64, high: i64) -> Iv
+    requires { (low -ℤ pos 1) ≤ℤ (high +ℤ pos 1) }
+    ensures lo { result.lo ≡ low -ℤ pos 1 }
+    ensures hi { result.hi ≡ high +ℤ pos 1 }
+{
+    Iv {
+        lo: low as i128 - 1,
+        hi: high as i128 + 1,
+    }
+}
+
 /// The eccentric anomalies of mean anomalies of at most half a turn either way, where `eps` is the eccentricity over 2 pi:
 /// all in turns, in units of 2^-38.
 pub fn anomalies(m: Iv, eps: Iv) -> Iv
@@ -45,8 +57,5 @@ pub fn anomalies(m: Iv, eps: Iv) -> Iv
     let last = m.hi as i64;
     let low = greatest_below(eccentricity, first);
     let high = least_above(eccentricity, last, low + (last - first));
-    Iv {
-        lo: low as i128 - 1,
-        hi: high as i128 + 1,
-    }
+    unit_outward(low, high)
 }

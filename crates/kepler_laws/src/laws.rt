@@ -10,7 +10,7 @@ ghost use Rattle.fix_interval.specs.Pairs.{PairLies, PairInside};
 ghost use Rattle.kepler_laws.specs.Anomalies.{IsEccentricityInTurns, IsWithinHalfTurn, mean_of, is_below, is_above, bracket, anomalies_of, IsGreatest, IsLeast};
 ghost use Rattle.kepler_laws.specs.EccentricSine.{ecc_sin_cos_of, HasAnomaly};
 
-/// The mean anomaly of the model rises with the eccentric one, but for a jump of less than 2^-52.
+/// For an eccentricity in turns from 0 to 1/128, the mean anomaly of the model rises with the eccentric one, but for 2^-52.
 pub fn mean_anomaly_rises()
     ensures { (N M : Level) (eps u v s c t d : Fraction) → zeroᶠ ≤ᶠ eps → eps ≤ᶠ ratio (pos 1) 128 → u ≤ᶠ v → IsSineCosine N u s c → IsSineCosine M v t d
         → ratio (pos 118) 128 *ᶠ (v -ᶠ u) ≤ᶠ ((v -ᶠ eps *ᶠ t) -ᶠ (u -ᶠ eps *ᶠ s)) +ᶠ ratio (pos 1) (2 ^ 52) }
@@ -39,7 +39,7 @@ pub fn anomalies_are_enclosed()
     ensures narrow { (m eps : Ends) → m.lo ≤ℤ m.hi → IsEccentricityInTurns eps → width_of eps ≤ℤ pos 4 → (width_of (ecc_sin_cos_of m eps).sine ≤ℤ (pos 32 *ℤ width_of m +ℤ pos 2048)) × (width_of (ecc_sin_cos_of m eps).cosine ≤ℤ (pos 32 *ℤ width_of m +ℤ pos 2048)) }
 {}
 
-/// Each mean anomaly has an eccentric one, at each level.
+/// For an eccentricity in turns from 0 to 1/128, each mean anomaly has an eccentric one, at each level.
 pub fn anomalies_exist()
     ensures { (N : Level) (M eps : Fraction) → zeroᶠ ≤ᶠ eps → eps ≤ᶠ ratio (pos 1) 128 → HasAnomaly N M eps }
 {}

@@ -19,7 +19,7 @@ pub fn sines_lie_within_one()
     ensures cosine { (N : Level) (u s c : Fraction) → IsSineCosine N u s c → (neg oneᶠ ≤ᶠ c) × (c ≤ᶠ oneᶠ) }
 {}
 
-/// Two sines of the model, at any two levels, differ by at most ten times their turns and 2^-45.
+/// Two sines of the model, at any two levels, differ by at most ten times the difference of their turns, and 2^-45.
 pub fn sines_move_slowly()
     ensures { (N M : Level) (u v s c t d : Fraction) → IsSineCosine N u s c → IsSineCosine M v t d
         → IsNear s t (ratio (pos 10) 1 *ᶠ abs (u -ᶠ v) +ᶠ ratio (pos 1) (2 ^ 45)) }

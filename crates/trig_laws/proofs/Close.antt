@@ -1,5 +1,5 @@
 -- How far the ends of an operation's answer are from the exact value.
-use Rattle.std.specs.Prelude.{◌≡◌, ℕ, ℤ, pos, ◌+◌, ◌*◌, ◌^◌, ◌<◌, ◌≤◌, refl, ◌+ℤ◌, ◌-ℤ◌, ◌*ℤ◌, neg_ℤ, ◌≤ℤ◌, Bool, true, false, cond, [], ◌∷◌}
+use Rattle.std.specs.Prelude.{◌≡◌, ℕ, ℤ, pos, ◌+◌, ◌*◌, ◌^◌, ◌<◌, ◌≤◌, refl, ◌+ℤ◌, ◌-ℤ◌, ◌*ℤ◌, neg_ℤ, ◌≤ℤ◌, [], ◌∷◌}
 use Rattle.std.proofs.Common.{arith, ap, sym, ◌∙◌, subst}
 use Rattle.std.proofs.lemmas.Int.{ints, clamps}
 use Rattle.std.proofs.lemmas.Nat.{pow_pos}
@@ -7,7 +7,7 @@ use Rattle.std.proofs.Math.Nat.{mul-pos, mul-le-mul_left}
 use Rattle.std.specs.Int.{int_min, int_max}
 use borrow.Author.Differences.{up, down}
 use lib.Dec.{lit≤}
-use lib.Signed.{le_z, lt_z}
+use lib.Signed.{le_z}
 use Rattle.whole_numbers.specs.Rounding.{floor_of, ceil_of}
 use Rattle.whole_numbers.proofs.Divisions.{floor_parts_high, ceil_parts_low, floor_of_mono, ceil_of_mono}
 use Rattle.fractions.specs.Fraction.{Fraction, ratio, zeroᶠ, oneᶠ, ◌+ᶠ◌, ◌-ᶠ◌, ◌*ᶠ◌, neg, ◌≤ᶠ◌, IsNear}

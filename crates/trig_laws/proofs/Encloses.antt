@@ -1,25 +1,21 @@
 -- The sine and cosine of turns enclose what the model admits, and wider turns give wider answers.
-use Rattle.std.specs.Prelude.{◌≡◌, ℕ, zero, suc, ℤ, pos, negsuc, ◌^◌, ◌≤◌, refl, ◌+ℤ◌, ◌-ℤ◌, ◌≤ℤ◌, neg_ℤ, Bool, true, false, cond, unsigned_abs, ◌⊎◌}
-use Rattle.std.proofs.Common.{arith, ap, sym, ◌∙◌, subst, inl, inr}
-use Rattle.std.proofs.lemmas.Int.{ints, clamps}
+use Rattle.std.specs.Prelude.{◌≡◌, zero, suc, ℤ, pos, negsuc, ◌^◌, ◌≤◌, refl, ◌+ℤ◌, ◌-ℤ◌, ◌≤ℤ◌, neg_ℤ, Bool, true, false, cond, unsigned_abs}
+use Rattle.std.proofs.Common.{arith, ap, sym, ◌∙◌}
+use Rattle.std.proofs.lemmas.Int.{ints}
 use Rattle.std.proofs.lemmas.Nat.{pow_pos}
 use Rattle.std.specs.Int.{int_rem_euclid}
 use lib.Dec.{lit≤}
 use lib.Signed.{le_z}
-use Rattle.fractions.specs.Fraction.{Fraction, ratio, zeroᶠ, oneᶠ, ◌*ᶠ◌, neg, ◌≤ᶠ◌}
-use Rattle.fractions.proofs.Laws.{zero-+ᶠ, ≤ᶠ_refl, ≤ᶠ_trans}
-use Rattle.fractions.proofs.Ratios.{ratio-zero, ratio_mono, ratio-same, neg-ratio}
+use Rattle.fractions.specs.Fraction.{Fraction, ratio, oneᶠ, ◌*ᶠ◌, neg, ◌≤ᶠ◌}
+use Rattle.fractions.proofs.Ratios.{ratio-same, neg-ratio}
 use Rattle.raim_model.specs.Constants.{tau}
 use Rattle.raim_model.specs.Level.{Level}
 use Rattle.raim_model.specs.Sine.{IsSineCosine, Turned, quarter_of, turns_left}
-use Rattle.fix_interval.specs.Bounds.{hull_of}
 use Rattle.fix_interval.specs.Ends.{Ends, IsInside}
 use Rattle.fix_interval.specs.Lies.{Lies}
-use Rattle.fix_interval.proofs.EndBounds.{hull_encloses}
-use Rattle.fix_interval.proofs.EndSums.{sub_encloses, neg_encloses}
+use Rattle.fix_interval.proofs.EndSums.{neg_encloses}
 use Rattle.fix_interval.specs.Ranges.{full_ends}
-use Rattle.fix_interval.specs.Pairs.{PairEnds, full_pair, pair_hull, hull_from, PairLies, PairInside}
-use Rattle.fix_interval.specs.Sums.{neg_of}
+use Rattle.fix_interval.specs.Pairs.{PairEnds, full_pair, hull_from, PairLies, PairInside}
 use Rattle.fix_interval.proofs.EndInsides.{lies_inside}
 use Rattle.fix_interval.proofs.EndPairs.{hulls_lie, hulls_above, hulls_least, last_of_range, full_self}
 use Rattle.series_laws.proofs.Turns.{radians_small, turns_small, between}

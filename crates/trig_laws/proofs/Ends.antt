@@ -1,12 +1,10 @@
 -- The ends of the sine and of the cosine of at most an eighth of a turn, each from one chain.
-use Rattle.std.specs.Prelude.{◌≡◌, ℕ, ℤ, pos, neg_ℤ, ◌^◌, ◌≤◌, ◌*ℤ◌, ◌≤ℤ◌, Bool, true, false, cond, refl}
+use Rattle.std.specs.Prelude.{◌≡◌, ℕ, ℤ, pos, ◌^◌, ◌≤◌, ◌*ℤ◌, ◌≤ℤ◌, Bool, true, false, cond, refl}
 use Rattle.std.proofs.Common.{arith, ap, ap₂, ◌∙◌}
 use Rattle.std.proofs.lemmas.Int.{ints, clamps}
 use Rattle.std.specs.Int.{int_min, int_max}
 use lib.Signed.{le_z}
 use Rattle.whole_numbers.specs.Rounding.{floor_of, ceil_of}
-use Rattle.std.proofs.lemmas.Nat.{pow_pos}
-use Rattle.whole_numbers.proofs.Divisions.{floor_of_low, floor_of_high}
 use Rattle.whole_numbers.proofs.Products.{*ℤ_mono_left, *ℤ_mono_right, *ℤ_anti_right}
 use Rattle.fix_interval.specs.Ends.{Ends, IsInside}
 use Rattle.fix_interval.specs.Bounds.{clamp_of, widen_of}

@@ -1,10 +1,9 @@
 -- Wider turns give wider sines and cosines.
-use Rattle.std.specs.Prelude.{◌≡◌, zero, suc, ℤ, pos, negsuc, ◌^◌, refl, ◌*ℤ◌, ◌≤ℤ◌, Bool, true, false, ◌&&◌, cond}
+use Rattle.std.specs.Prelude.{zero, suc, ℤ, pos, negsuc, ◌^◌, refl, ◌*ℤ◌, ◌≤ℤ◌}
 use Rattle.std.proofs.Common.{arith}
 use Rattle.std.proofs.lemmas.Int.{ints, clamps}
-use Rattle.std.specs.Int.{int_min, int_rem_euclid}
+use Rattle.std.specs.Int.{int_rem_euclid}
 use lib.Dec.{lit≤}
-use lib.Signed.{le_z}
 use Rattle.whole_numbers.proofs.Divisions.{floor_of_mono, ceil_of_mono}
 use Rattle.fractions.specs.Fraction.{ratio, ◌≤ᶠ◌}
 use Rattle.fractions.proofs.Laws.{not_negative_square}

@@ -1,4 +1,4 @@
-use Rattle.std.proofs.Common.{rules, arith, ap, ap₂, sym, ◌∙◌, pos, ◌-ℤ◌, ◌≡◌, ◌≤ℤ◌, ◌<ℤ◌, ◌^◌, unsigned_abs}
+use Rattle.std.proofs.Common.{rules, arith, ap, ap₂, ◌∙◌, pos, ◌-ℤ◌, ◌≡◌, ◌≤ℤ◌, ◌<ℤ◌, ◌^◌, unsigned_abs}
 use mir.Val.{SFits}
 use mir.Syntax.{w64}
 use Rattle.std.proofs.lemmas.Int.{ints}
