@@ -1,0 +1,29 @@
+//! The normal matrix of satellites' directions, its determinant and its adjugate, as intervals that hold those of every
+//! choice of directions inside. Nothing is divided, and nothing overflows for at most 32 satellites.
+//!
+//! The contracts fix each answer by the definitions in `geom_laws`.
+#![tactic(auto)]
+
+mod alpha;
+#[cfg(test)]
+mod cases;
+mod cofactors;
+mod determinant;
+mod line;
+mod minor;
+mod minors;
+mod normal;
+mod products;
+mod row;
+mod sym4;
+#[cfg(test)]
+mod tests;
+mod weighed;
+mod wide_sums;
+
+pub use alpha::{alpha_east, alpha_north, alpha_up};
+pub use cofactors::adjugate;
+pub use determinant::det;
+pub use normal::{gram, gram_less, gram_of_sums, gram_without, sums, sums_less};
+pub use row::Row;
+pub use sym4::Sym4;

@@ -1,0 +1,5 @@
+pub mod Minors
+pub mod Adjugates
+pub mod Rows
+pub mod Grams
+pub mod Bounds

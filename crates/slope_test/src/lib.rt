@@ -1,0 +1,10 @@
+//! The test of slopes of one list of rows over a piece of time, for fault detection, horizontally or vertically.
+//!
+//! The contracts fix each answer by the definitions in `slope_laws`.
+#![tactic(auto)]
+
+mod detection;
+mod slope;
+mod tally;
+
+pub use detection::{detect, detect_from_sums, detect_over};
