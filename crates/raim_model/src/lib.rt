@@ -15,7 +15,7 @@ mod span;
 mod verdict;
 mod waypoint;
 
-pub use almanac::AlmRecord;
+pub use almanac::{AlmRecord, Almanac};
 pub use decimal::{Angle, Dec};
 pub use fault::{OutOfMemory, Refusal, TextFault, TextWhy};
 pub use file_no::FileNo;
