@@ -1,13 +1,15 @@
 -- Records of distinct satellites, and one more.
-use Rattle.std.proofs.Common.{◌≡◌, ◌≢◌, ◌==◌, ◌<◌, ℕ, Bool, true, false, nat_le, List, [], ◌∷◌, ◌++◌, length, Result, Ok, Err, refl, ap, ◌∙◌, subst, arith, AllPairs}
+use Rattle.std.proofs.Common.{◌≡◌, ◌≢◌, ◌==◌, ◌<◌, ℕ, Bool, true, false, nat_le, List, [], ◌∷◌, ◌++◌, length, Result, Ok, Err, refl, ap, ◌∙◌, subst, arith, AllPairs, IsPermutation, IsSortedByKey}
 use Rattle.std.specs.List.{list_any}
+use Rattle.std.specs.Ordering.{nat_cmp}
 use Rattle.std.proofs.lemmas.Bool.Decides.{nat_tests}
 use Rattle.raim_model.specs.declared.TextWhy.{TextWhy}
 use Rattle.raim_model.specs.declared.TextWhy.TheVariants.{PrnTwice}
 use Rattle.raim_model.specs.declared.AlmRecord.{AlmRecord}
 use Rattle.text_lines.specs.Fields.{unless}
 use Rattle.text_lines.proofs.FieldLemmas.{unless_then, ok_is}
-use Rattle.text_lines.proofs.Rising.{one_more}
+use Rattle.text_lines.proofs.Rising.{one_more, rises}
+use Rattle.text_lines.proofs.Sorting.{sorted_once}
 use Rattle.almanac_fields.specs.Prns.{fresh_prn_of}
 
 abbrev pub Differ : List AlmRecord → Type 0
@@ -37,3 +39,10 @@ pub fresh_found : (records : List AlmRecord) (prn : ℕ) → list_any (λ r. r.p
 fresh_found records prn new room =
     let few = room_left (length records) (nat_le 32 (length records)) refl room in
     rw (new, few) refl
+
+-- records of distinct satellites are sorted by PRN in one way
+pub sorted_alike : (records some other : List AlmRecord) → Differ records → IsPermutation records some → IsSortedByKey (λ r. r.prn) nat_cmp some
+    → IsPermutation records other → IsSortedByKey (λ r. r.prn) nat_cmp other → some ≡ other
+sorted_alike records some other differ p s q t =
+    sorted_once (λ (r : AlmRecord). r.prn) records some other
+    (rises (λ (r : AlmRecord). r.prn) records some p differ s) (rises (λ (r : AlmRecord). r.prn) records other q differ t) p q

@@ -10,3 +10,4 @@ pub mod ReaderLemmas
 pub mod SomeReading
 pub mod Feeds
 pub mod Rising
+pub mod Sorting

@@ -34,16 +34,16 @@ Apart kind.Prn records c = Unit {0}
 Apart _ records c = list_any (λ r. r.prn == c.prn) records ≡ false
 
 -- what is true behind each line: the nonblank lines so far are whole records, and the front of one
-record Sound (first end : ℕ) (lines : List Text) (said : RecordsSaid) : Type 0 where
-  parts : List (List Text)
-  open_lines : List Text
-  split : filter is_nonblank lines ≡ flat_map (λ part. part) parts ++ open_lines
-  each : map (record_at first end) parts ≡ map (λ r. Ok r) said.records
-  begun : Facts first end (kinds_before said.kind) open_lines said.current said.time
-  apart : Apart said.kind said.records said.current
-  differ : Differ said.records
-  few : length said.records ≤ 32
-  room : HasRoomSaid said
+pub record Sound (first end : ℕ) (lines : List Text) (said : RecordsSaid) : Type 0 where
+  pub parts : List (List Text)
+  pub open_lines : List Text
+  pub split : filter is_nonblank lines ≡ flat_map (λ part. part) parts ++ open_lines
+  pub each : map (record_at first end) parts ≡ map (λ r. Ok r) said.records
+  pub begun : Facts first end (kinds_before said.kind) open_lines said.current said.time
+  pub apart : Apart said.kind said.records said.current
+  pub differ : Differ said.records
+  pub few : length said.records ≤ 32
+  pub room : HasRoomSaid said
 
 apart_next : (first end : ℕ) (said : RecordsSaid) (k : LineKind) (line : Text) (e : RecordEntry) → SaysLine first end said k line e → Apart k said.records said.current
     → Apart (kind_after k) (records_after said.records (current_after said.current e) e) (current_after said.current e)
@@ -222,7 +222,7 @@ module _ (first end : ℕ) where
       subst (λ (ls : List Text). Sound first end ls (said_behind (take (suc k) entries))) (sym (take-suc lines k [] below))
       (subst (Sound first end (take k lines ++ line ∷ [])) (sym more) next)
 
-  all_sound : (lines : List Text) (entries : List RecordEntry) → Reads (yuma_lines first end) lines entries → Sound first end lines (said_behind entries)
+  pub all_sound : (lines : List Text) (entries : List RecordEntry) → Reads (yuma_lines first end) lines entries → Sound first end lines (said_behind entries)
   all_sound lines entries r =
       subst (λ (ls : List Text). Sound first end ls (said_behind entries)) (take-length lines)
       (subst (λ (es : List RecordEntry). Sound first end (take (length lines) lines) (said_behind es)) (ap (λ n. take n entries) (sym r.count) ∙ take-length entries)
