@@ -10,6 +10,8 @@ mod per_file;
 mod place;
 mod sink;
 mod std_sink;
+mod sure_desk;
+mod sure_sink;
 #[cfg(test)]
 mod tests;
 
@@ -19,3 +21,5 @@ pub use mem_desk::MemDesk;
 pub use mem_sink::MemSink;
 pub use sink::{Failed, Sink, write_all_counted};
 pub use std_sink::{StandardStream, StdSink};
+pub use sure_desk::SureDesk;
+pub use sure_sink::SureSink;
