@@ -5,6 +5,7 @@ mod choice;
 mod laws;
 mod reader;
 mod section;
+mod taker;
 #[cfg(test)]
 mod tests;
 

@@ -2,6 +2,7 @@ pub mod Causes
 pub mod Sizes
 pub mod Desks
 pub mod Calls
+pub mod Feeding
 pub mod PerFile
 pub mod Paths
 pub mod MemDeskState
