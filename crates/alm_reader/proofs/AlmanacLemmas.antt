@@ -1,5 +1,5 @@
 -- The sections of a file with one more line.
-use Rattle.std.proofs.Common.{◌≡◌, ◌⊎◌, ◌<◌, ◌≤◌, ◌+◌, ◌-◌, ◌^◌, ℕ, Bool, true, false, min, List, [], ◌∷◌, ◌++◌, length, Option, Some, None, refl, sym, ap, ap₂, ◌∙◌, subst, inl, inr, arith, append_assoc, append-nil, length-append}
+use Rattle.std.proofs.Common.{◌≡◌, ◌+◌, ◌-◌, ℕ, Bool, true, false, List, [], ◌∷◌, ◌++◌, length, Option, Some, None, refl, sym, ap, ◌∙◌, subst, inl, inr, arith, append_assoc}
 use Rattle.raim_model.specs.declared.AlmRecord.{AlmRecord}
 use Rattle.raim_model.specs.declared.Span.{Span}
 use Rattle.raim_model.specs.declared.TextWhy.{TextWhy}
@@ -11,7 +11,7 @@ use Rattle.alm_reader.specs.declared.choice.Choice.{Choice}
 use Rattle.alm_reader.specs.declared.choice.Choice.TheVariants.{Yuma, Sem}
 use Rattle.alm_reader.specs.Choices.{choice_of}
 use Rattle.alm_reader.specs.Sections.{SaySection, RefusesBy, RefusesSection, FailsBy, FailsSection}
-use Rattle.alm_reader.specs.Almanacs.{is_separator, onto_section, sections_of, lines_of_all, number_in, SayEach, IsReached, FailsBefore, FailsOne, HasTooMany, KnowsFault, RefusesOne, RefusesAlmanacs}
+use Rattle.alm_reader.specs.Almanacs.{is_separator, onto_section, sections_of, lines_of_all, SayEach, FailsBefore, KnowsFault, RefusesAlmanacs}
 use Rattle.alm_reader.proofs.ChoiceLemmas.{choice_stays}
 
 -- a line behind the last section's

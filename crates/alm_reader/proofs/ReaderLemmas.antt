@@ -1,18 +1,16 @@
 -- The reader of a file of almanacs after one more line, and at the end.
-use Rattle.std.proofs.Common.{◌≡◌, ◌⊎◌, ◌<◌, ◌≤◌, ◌+◌, ◌-◌, ◌^◌, ℕ, suc, add-zero, Bool, true, false, min, List, [], ◌∷◌, ◌++◌, length, map, get_or, Option, Some, None, Result, Ok, Err, IfOk, IfErr, All, refl, sym, ap, ap₂, ◌∙◌, subst, inl, inr, arith, append_assoc, append-nil, length-append}
-use Rattle.std.proofs.lemmas.List.{map-append}
+use Rattle.std.proofs.Common.{◌≡◌, ◌<◌, ◌≤◌, ◌+◌, ◌-◌, ◌^◌, ℕ, add-zero, true, false, min, List, [], ◌∷◌, ◌++◌, length, Option, Some, None, Result, Ok, Err, IfOk, IfErr, All, refl, sym, ap, ◌∙◌, subst, inl, inr, arith, append_assoc, length-append}
 use Rattle.std.proofs.Math.ListN.{get_or-append}
 use Rattle.std.proofs.Math.Seq.{get_or-append_seam}
 use Rattle.raim_model.specs.declared.AlmRecord.{AlmRecord}
 use Rattle.raim_model.specs.declared.Span.{Span}
-use Rattle.raim_model.specs.declared.TextWhy.{TextWhy}
 use Rattle.raim_model.specs.declared.TextWhy.TheVariants.{TooMany}
 use Rattle.raim_model.specs.declared.TextFault.{TextFault}
 use Rattle.text_lines.specs.Lines.{Text}
 use Rattle.alm_reader.specs.declared.section.SectionReader.{SectionReader}
 use Rattle.alm_reader.specs.declared.reader.AlmanacReader.{AlmanacReader}
 use Rattle.alm_reader.specs.Sections.{SaySection, RefusesSection, FailsSection, PassesSection, HasTakenSection}
-use Rattle.alm_reader.specs.Almanacs.{is_separator, sections_of, lines_of_all, number_in, SayEach, SayAlmanacs, IsReached, KnowsFault, KnowsNone, RefusesAlmanacs}
+use Rattle.alm_reader.specs.Almanacs.{is_separator, sections_of, lines_of_all, SayEach, SayAlmanacs, KnowsFault, KnowsNone, RefusesAlmanacs}
 use Rattle.alm_reader.specs.Readers.{fault_in, IsReading, HasTaken, ReadsBy}
 use Rattle.alm_reader.proofs.AlmanacLemmas.{sections-line, onto_last, onto_last-end, separator_split, knows_more, each_length, each_more, lines_of_more}
 

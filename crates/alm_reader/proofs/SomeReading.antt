@@ -1,5 +1,5 @@
 -- Every file of almanacs is accepted or refused, and an accepted one says one list of almanacs.
-use Rattle.std.proofs.Common.{◌≡◌, ◌⊎◌, ◌<◌, ◌≤◌, ◌+◌, ℕ, List, [], ◌∷◌, ◌++◌, length, length-append, Option, Some, None, refl, sym, ap, ap₂, ◌∙◌, subst, inl, inr, arith, append_assoc, append-nil, AllPairs, IsPermutation, IsSortedByKey}
+use Rattle.std.proofs.Common.{◌≡◌, ◌⊎◌, ◌<◌, ◌≤◌, ◌+◌, ℕ, List, [], ◌∷◌, ◌++◌, length, length-append, Option, Some, None, refl, sym, ap₂, ◌∙◌, subst, inl, inr, arith, append_assoc, append-nil}
 use Rattle.raim_model.specs.declared.AlmRecord.{AlmRecord}
 use Rattle.raim_model.specs.declared.Span.{Span}
 use Rattle.raim_model.specs.declared.TextWhy.{TextWhy}
@@ -10,7 +10,7 @@ use Rattle.sem_text.proofs.OneReading.{says_or_refuses as says_or_refuses_sem, s
 use Rattle.alm_reader.specs.declared.choice.Choice.{Choice}
 use Rattle.alm_reader.specs.declared.choice.Choice.TheVariants.{Yuma, Sem}
 use Rattle.alm_reader.specs.Choices.{choice_of}
-use Rattle.alm_reader.specs.Sections.{SayBy, SaySection, RefusesBy, RefusesSection}
+use Rattle.alm_reader.specs.Sections.{SayBy, SaySection, RefusesBy}
 use Rattle.alm_reader.specs.Almanacs.{sections_of, lines_of_all, number_in, SayEach, SayAlmanacs, RefusesAlmanacs}
 use Rattle.alm_reader.proofs.AlmanacLemmas.{each_more}
 
@@ -54,28 +54,36 @@ module _ (span : Span) where
     where
       go : length before < 8 → Settled (choice_of section) section → SettledFile lines
       go low (inl s) = next s.0 s.1 low
-      go low (inr r) = inr (number_in (lines_of_all before) r.0, r.1, inl (record {
-        before = before;
-        section = section;
-        after = after;
-        reached = record { split = split; almanacs = almanacs; accepted = say };
-        few = low;
-        own = r.0;
-        refused = r.2;
-        numbered = refl;
-      }))
+      go low (inr r) = inr (
+        number_in (lines_of_all before) r.0,
+        r.1,
+        inl (record {
+          before = before;
+          section = section;
+          after = after;
+          reached = record { split = split; almanacs = almanacs; accepted = say };
+          few = low;
+          own = r.0;
+          refused = r.2;
+          numbered = refl;
+        }),
+      )
 
       room : (length before < 8) ⊎ (length before ≡ 8) → SettledFile lines
       room (inl low) = go low (section_some (choice_of section) section)
-      room (inr eight) = inr (number_in (lines_of_all before) 0, TooMany, inr (record {
-        before = before;
-        section = section;
-        after = after;
-        reached = record { split = split; almanacs = almanacs; accepted = say };
-        eight = eight;
-        cause = refl;
-        numbered = refl;
-      }))
+      room (inr eight) = inr (
+        number_in (lines_of_all before) 0,
+        TooMany,
+        inr (record {
+          before = before;
+          section = section;
+          after = after;
+          reached = record { split = split; almanacs = almanacs; accepted = say };
+          eight = eight;
+          cause = refl;
+          numbered = refl;
+        }),
+      )
 
   -- the sections behind some that are accepted
   walk : (lines : List Text) (before : List (List Text)) (almanacs : List (List AlmRecord)) → SayEach span before almanacs → length before ≤ 8
@@ -85,8 +93,8 @@ module _ (span : Span) where
       inl (almanacs, record { few = subst (λ (x : List (List Text)). length x ≤ 8) (sym all) few; each = subst (λ (x : List (List Text)). SayEach span x almanacs) (sym all) say })
   walk lines before almanacs say few (section ∷ after) split =
       step lines before almanacs say few section after split (λ records s low.
-          walk lines (before ++ section ∷ []) (almanacs ++ records ∷ []) (each_more span before almanacs section records say s)
-          (let n = length-append before (section ∷ []) in omega (arith, n, low)) after (split ∙ sym (append_assoc before (section ∷ []) after)))
+      walk lines (before ++ section ∷ []) (almanacs ++ records ∷ []) (each_more span before almanacs section records say s)
+      (let n = length-append before (section ∷ []) in omega (arith, n, low)) after (split ∙ sym (append_assoc before (section ∷ []) after)))
 
   pub file_some : (lines : List Text) → SettledFile lines
   file_some lines = walk lines [] [] tt (omega arith) (sections_of lines) refl

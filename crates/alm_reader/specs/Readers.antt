@@ -1,6 +1,5 @@
 -- What a reader of a file of almanacs stands for.
-use Rattle.std.specs.Prelude.{◌≡◌, ◌<◌, ◌+◌, ◌-◌, ◌^◌, ℕ, min, List, [], ◌∷◌, ◌++◌, map, length, All, Option, Some, None}
-use Rattle.raim_model.specs.declared.AlmRecord.{AlmRecord}
+use Rattle.std.specs.Prelude.{◌≡◌, ◌<◌, ◌+◌, ◌-◌, ◌^◌, ℕ, min, List, [], ◌∷◌, ◌++◌, length, All, Option, Some, None}
 use Rattle.raim_model.specs.declared.Span.{Span}
 use Rattle.raim_model.specs.declared.TextFault.{TextFault}
 use Rattle.text_lines.specs.Lines.{Text}

@@ -41,7 +41,9 @@ fn five(alloc: Global) -> Result<String, Fail> {
 
 // One satellite in the fourteen lines of a YUMA record.
 fn yuma(alloc: Global, prn: u8, week: u32) -> Result<String, Fail> {
-    Ok(format!(in alloc; "* PRN {prn}\nID: {prn}\nHealth: 000\nEccentricity: 0.01\nTime of Applicability(s): 0.0\nOrbital Inclination(rad): 0.9\nRate of Right Ascen(r/s): 0.0\nSQRT(A) (m 1/2): 5153.6\nRight Ascen at Week(rad): 1.0\nArgument of Perigee(rad): 1.0\nMean Anom(rad): 1.0\nAf0(s): 0.0\nAf1(s/s): 0.0\nweek: {week}\n")?)
+    Ok(format!(in alloc;
+        "* PRN {prn}\nID: {prn}\nHealth: 000\nEccentricity: 0.01\nTime of Applicability(s): 0.0\nOrbital Inclination(rad): 0.9\nRate of Right Ascen(r/s): 0.0\nSQRT(A) (m 1/2): 5153.6\nRight Ascen at Week(rad): 1.0\nArgument of Perigee(rad): 1.0\nMean Anom(rad): 1.0\nAf0(s): 0.0\nAf1(s/s): 0.0\nweek: {week}\n"
+    )?)
 }
 
 // One satellite in the eight lines of a SEM record.
@@ -283,8 +285,19 @@ fn texts_are_read_in_any_pieces(rt: HostRuntime) -> Result<(), Fail> {
     let label = format!(in alloc; "{one}---\n* title\nID: 1\nHelth: 0\n")?;
     let short = format!(in alloc; "{open}\r")?;
     for text in [
-        "", "\n", "\r", "\r\n", "---", "---\n---\n", one.as_str(), other.as_str(), open.as_str(),
-        both.as_str(), returns.as_str(), label.as_str(), short.as_str(),
+        "",
+        "\n",
+        "\r",
+        "\r\n",
+        "---",
+        "---\n---\n",
+        one.as_str(),
+        other.as_str(),
+        open.as_str(),
+        both.as_str(),
+        returns.as_str(),
+        label.as_str(),
+        short.as_str(),
     ] {
         expect_alike(&rt, alloc, text.as_bytes(), 1)?;
         expect_alike(&rt, alloc, text.as_bytes(), 2)?;

@@ -1,10 +1,9 @@
 -- What the tests of a record make sure of.
-use Rattle.std.proofs.Common.{◌≡◌, ◌≢◌, ◌<◌, ◌≤◌, ◌+◌, ◌*◌, ◌/◌, ◌||◌, ℕ, ℤ, pos, unsigned_abs, ◌+ℤ◌, ◌≤ℤ◌, negsuc, Bool, true, false, nat_lt, nat_le, List, length, Result, Ok, Err, refl, subst, sym, ap, ◌∙◌, arith, All, AllPairs, IsPermutation, IsSortedByKey}
+use Rattle.std.proofs.Common.{◌≡◌, ◌≢◌, ◌≤◌, ◌+◌, ◌*◌, ◌/◌, ◌||◌, ℕ, ℤ, pos, unsigned_abs, ◌+ℤ◌, ◌≤ℤ◌, negsuc, Bool, true, false, nat_lt, List, length, Ok, refl, subst, arith, All, AllPairs, IsPermutation, IsSortedByKey}
 use Rattle.std.specs.Ordering.{nat_cmp}
 use Rattle.std.proofs.lemmas.Bool.Decides.{nat_tests}
 use Rattle.std.proofs.lemmas.Int.{ints}
 use Rattle.std.proofs.lemmas.List.Sorted.{All-permutation, length_permutation}
-use Rattle.raim_model.specs.declared.TextWhy.{TextWhy}
 use Rattle.raim_model.specs.declared.TextWhy.TheVariants.{Range}
 use Rattle.raim_model.specs.declared.AlmRecord.{AlmRecord}
 use Rattle.raim_model.specs.declared.Span.{Span}
@@ -13,7 +12,7 @@ use Rattle.raim_model.specs.Span.{IsFlight}
 use Rattle.raim_model.specs.AlmanacRanges.{IsAlmRecord, IsApplicable, AreRecords, ninety_days}
 use Rattle.gps_week.specs.Weeks.{full_week_of}
 use Rattle.text_lines.specs.Lines.{Text}
-use Rattle.text_lines.specs.Fields.{◌>>=◌, unless, any_whole, in_range, whole_in}
+use Rattle.text_lines.specs.Fields.{unless, any_whole, in_range, whole_in}
 use Rattle.text_lines.proofs.FieldLemmas.{bind_then}
 use Rattle.text_lines.proofs.Rising.{rises}
 use Rattle.almanac_fields.specs.Times.{toa_of, is_far}

@@ -33,7 +33,11 @@ fn units(d: Dec, places: u32) -> Option<i128> {
         Some(more) => digits.checked_mul(10i128.checked_pow(more)?)?,
         None => digits.checked_div(10i128.checked_pow(u32::from(d.places) - places)?)?,
     };
-    if d.neg { size.checked_neg() } else { Some(size) }
+    if d.neg {
+        size.checked_neg()
+    } else {
+        Some(size)
+    }
 }
 
 // An angle of a SEM almanac in semicircles, in those units.

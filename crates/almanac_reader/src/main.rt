@@ -86,7 +86,9 @@ fn main(rt: HostRuntime) -> io::Result<()> {
     words.next();
     let words: Vec<String> = words.collect(rt.alloc())?;
     match words.as_slice() {
-        [first, week, words @ ..] if first.as_str() == "in" => match read_whole_number(week.as_bytes()) {
+        [first, week, words @ ..] if first.as_str() == "in" => match read_whole_number(
+            week.as_bytes(),
+        ) {
             Some(week) if week <= 9999 => run(&rt, week as u16, words),
             _ => print_usage(&rt),
         },

@@ -1,5 +1,5 @@
 -- What is an almanac is accepted.
-use Rattle.std.proofs.Common.{◌≡◌, ◌==◌, ◌⊎◌, ◌<◌, ◌≤◌, ◌+◌, ℕ, ℤ, Bool, true, false, nat_le, nat_lt, List, [], ◌∷◌, ◌++◌, length, get_or, map, filter, Result, Ok, Err, Option, Some, None, refl, sym, ap, ◌∙◌, subst, inl, inr, arith, append_assoc, append-nil, length-append, unsigned_abs, if◌then◌else◌}
+use Rattle.std.proofs.Common.{◌≡◌, ◌==◌, ◌⊎◌, ◌<◌, ◌≤◌, ◌+◌, ℕ, ℤ, Bool, true, false, nat_le, nat_lt, List, [], ◌∷◌, ◌++◌, length, get_or, map, filter, Result, Ok, Some, None, refl, sym, ap, ◌∙◌, subst, inl, inr, arith, append_assoc, append-nil, length-append, unsigned_abs, if◌then◌else◌}
 use Rattle.std.specs.List.{list_any, flat_map}
 use Rattle.std.proofs.lemmas.Bool.Decides.{nat_tests}
 use Rattle.std.proofs.lemmas.List.Elements.{filter-append}
@@ -9,7 +9,6 @@ use Rattle.raim_model.specs.declared.TextWhy.{TextWhy}
 use Rattle.raim_model.specs.declared.TextWhy.TheVariants.{Label, CountDiffers}
 use Rattle.raim_model.specs.declared.Dec.{Dec}
 use Rattle.raim_model.specs.declared.AlmRecord.{AlmRecord}
-use Rattle.almanac_fields.specs.Prns.{fresh_prn_of}
 use Rattle.almanac_fields.proofs.Differing.{Differ, fresh_found}
 use Rattle.almanac_fields.proofs.RangeLemmas.{whole_within}
 use Rattle.text_lines.specs.Lines.{Text}
@@ -92,6 +91,7 @@ line_at kind.SqrtARightAscensionPerigee part r a = a.line4
 line_at kind.MeanAnomalyAndClock part r a = a.line5
 line_at kind.Health part r a = a.line6
 line_at kind.Configuration part r a = a.line7
+
 facts_length : (ks : List LineKind) (ls : List Text) (c : AlmRecord) → Facts ks ls c → length ls ≡ length ks
 facts_length [] [] c f = refl
 facts_length [] (l ∷ ls) c f = absurd f
@@ -220,15 +220,19 @@ module _ (first end : ℕ) where
           by_words said line nonblank (λ word words w. taken said said.kind word words line o.rec w of p few new room)
 
       count_taken : line0 ≡ line → said.kind ≡ kind.Count → (e : Entry) × (entry_of first end said line ≡ Ok e)
-      count_taken same k = by_words said line nonblank (λ word words w.
-          (entry.Count (length records), ap (λ (x : LineKind). line_entry_of first end said x word (word ∷ words)) k
-          ∙ makes (λ n. entry.Count n) (count_of word) (length records) (ap (λ (ws : List Text). first_count ws) (sym w) ∙ ap count_at (sym same) ∙ count)))
+      count_taken same k = by_words said line nonblank (λ word words w. (
+        entry.Count (length records),
+        ap (λ (x : LineKind). line_entry_of first end said x word (word ∷ words)) k
+            ∙ makes (λ n. entry.Count n) (count_of word) (length records) (ap (λ (ws : List Text). first_count ws) (sym w) ∙ ap count_at (sym same) ∙ count),
+      ))
 
       time_taken : line1 ≡ line → said.kind ≡ kind.WeekAndTime → (e : Entry) × (entry_of first end said line ≡ Ok e)
-      time_taken same k = by_words said line nonblank (λ word words w.
-          (entry.TimeOfApplicability toa, ap (λ (x : LineKind). line_entry_of first end said x word (word ∷ words)) k
-          ∙ makes (λ z. entry.TimeOfApplicability z) (time_of_applicability_of first end (word ∷ words)) toa
-          (ap (λ (ws : List Text). time_of_applicability_of first end ws) (sym w) ∙ ap (time_of_applicability_at first end) (sym same) ∙ applicable)))
+      time_taken same k = by_words said line nonblank (λ word words w. (
+        entry.TimeOfApplicability toa,
+        ap (λ (x : LineKind). line_entry_of first end said x word (word ∷ words)) k
+            ∙ makes (λ z. entry.TimeOfApplicability z) (time_of_applicability_of first end (word ∷ words)) toa
+            (ap (λ (ws : List Text). time_of_applicability_of first end ws) (sym w) ∙ ap (time_of_applicability_at first end) (sym same) ∙ applicable),
+      ))
 
       by_kind : (k : LineKind) → said.kind ≡ k → Head first end k s.head s.parts said.declared said.current.toa_ms → Facts (kinds_before k) s.open_lines said.current → (e : Entry) × (entry_of first end said line ≡ Ok e)
       by_kind kind.Count is h f =

@@ -1,5 +1,5 @@
 -- An accepted almanac means its records.
-use Rattle.std.proofs.Common.{◌≡◌, ◌==◌, ◌⊎◌, ◌<◌, ◌≤◌, ◌+◌, ℕ, ℤ, suc, zero, Bool, true, false, nat_le, nat_lt, List, [], ◌∷◌, ◌++◌, length, take, get_or, map, filter, Result, Ok, Err, Option, Some, None, refl, sym, ap, ap₂, ◌∙◌, subst, inl, inr, arith, append_assoc, append-nil, length-append, unsigned_abs, if◌then◌else◌}
+use Rattle.std.proofs.Common.{◌≡◌, ◌==◌, ◌⊎◌, ◌<◌, ◌≤◌, ◌+◌, ℕ, ℤ, suc, zero, Bool, true, false, nat_le, nat_lt, List, [], ◌∷◌, ◌++◌, length, take, get_or, map, filter, Result, Ok, Some, None, refl, sym, ap, ap₂, ◌∙◌, subst, inl, inr, arith, append_assoc, append-nil, length-append, unsigned_abs, if◌then◌else◌}
 use Rattle.std.specs.List.{list_any, flat_map}
 use Rattle.std.proofs.lemmas.Bool.Decides.{nat_tests}
 use Rattle.std.proofs.lemmas.List.Elements.{filter-append}
@@ -13,7 +13,7 @@ use Rattle.raim_model.specs.declared.AlmRecord.{AlmRecord}
 use Rattle.almanac_fields.proofs.Differing.{Differ, differ_more, fresh_passes}
 use Rattle.text_lines.specs.Lines.{Text}
 use Rattle.text_lines.specs.Words.{is_nonblank}
-use Rattle.text_lines.specs.Reading.{Format, Reads, Accepts}
+use Rattle.text_lines.specs.Reading.{Reads, Accepts}
 use Rattle.sem_text.specs.declared.line_kind.LineKind.{LineKind}
 use Rattle.sem_text.specs.declared.line_kind.LineKind.TheVariants as kind
 use Rattle.sem_text.specs.declared.entry.Entry.{Entry}

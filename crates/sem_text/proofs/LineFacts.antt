@@ -1,9 +1,7 @@
 -- What is known of a line that passes.
-use Rattle.std.proofs.Common.{◌≡◌, ◌⊎◌, ◌+◌, ℕ, ℤ, Bool, true, false, nat_le, List, [], ◌∷◌, length, Result, Ok, Err, refl, sym, inl, inr}
+use Rattle.std.proofs.Common.{◌≡◌, ◌⊎◌, ◌+◌, ℕ, true, false, nat_le, List, [], ◌∷◌, length, Result, Ok, refl, sym, inl, inr}
 use Rattle.raim_model.specs.declared.TextWhy.{TextWhy}
 use Rattle.raim_model.specs.declared.TextWhy.TheVariants as why
-use Rattle.raim_model.specs.declared.Dec.{Dec}
-use Rattle.raim_model.specs.declared.AlmRecord.{AlmRecord}
 use Rattle.almanac_fields.specs.Prns.{fresh_prn_of}
 use Rattle.text_lines.specs.Lines.{Text}
 use Rattle.text_lines.specs.Words.{words_of, is_nonblank}

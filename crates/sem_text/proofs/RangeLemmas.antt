@@ -1,5 +1,5 @@
 -- The records of an accepted almanac are in their ranges, and apply to the flight.
-use Rattle.std.proofs.Common.{◌≡◌, ◌≤◌, ◌<◌, ℕ, ℤ, pos, neg_ℤ, ◌^◌, true, false, suc, zero, List, [], ◌∷◌, length, map, get_or, unsigned_abs, nat_lt, Result, Ok, Err, refl, sym, subst, inr, arith, All}
+use Rattle.std.proofs.Common.{◌≡◌, ◌≤◌, ℕ, ℤ, pos, neg_ℤ, true, false, suc, zero, List, [], ◌∷◌, length, map, unsigned_abs, nat_lt, Ok, refl, subst, inr, arith, All}
 use Rattle.fractions.specs.Fraction.{ratio, ◌≤ᶠ◌}
 use Rattle.fractions.proofs.Ratios.{ratio-same}
 use Rattle.raim_model.specs.declared.TextWhy.{TextWhy}
@@ -20,8 +20,8 @@ use Rattle.text_lines.specs.Words.{words_of, only_of, pair_of, triple_of}
 use Rattle.text_lines.specs.Fields.{◌>>=◌, unless, or_else, any_whole, whole_in}
 use Rattle.text_lines.proofs.FieldLemmas.{bind_then, ok_is, unless_then}
 use Rattle.text_lines.proofs.Parts.{cons_same}
-use Rattle.sem_text.specs.Sem.{zero as no_dec, records_in, count_of, week_and_time_of, three_decimals_of, decimals_in, angle_of, eccentricity_inclination_rate_of, sqrt_a_right_ascension_perigee_of, mean_anomaly_and_clock_of, prn_of, health_of}
-use Rattle.sem_text.specs.Almanac.{first_word_of, count_at, time_of_applicability_at, prn_at, unused_at, eccentricity_inclination_rate_at, sqrt_a_right_ascension_perigee_at, mean_anomaly_and_clock_at, health_at, record_at, IsAlmanac}
+use Rattle.sem_text.specs.Sem.{zero as no_dec, records_in, count_of, week_and_time_of, three_decimals_of, decimals_in, angle_of, eccentricity_inclination_rate_of, sqrt_a_right_ascension_perigee_of, mean_anomaly_and_clock_of}
+use Rattle.sem_text.specs.Almanac.{first_word_of, count_at, time_of_applicability_at, prn_at, unused_at, eccentricity_inclination_rate_at, sqrt_a_right_ascension_perigee_at, mean_anomaly_and_clock_at, health_at, record_at}
 use Rattle.sem_text.specs.Answers.{SayRecords}
 use Rattle.sem_text.proofs.AlmanacLemmas.{means_records}
 

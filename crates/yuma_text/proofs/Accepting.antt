@@ -1,22 +1,21 @@
 -- What is an almanac is accepted.
-use Rattle.std.proofs.Common.{◌≡◌, ◌≢◌, ◌==◌, ◌⊎◌, ◌<◌, ◌≤◌, ◌+◌, ℕ, ℤ, Bool, true, false, not, List, [], ◌∷◌, ◌++◌, length, take, get_or, map, filter, Result, Ok, Err, Option, Some, None, refl, sym, ap, ◌∙◌, subst, inl, inr, arith, append_assoc, append-nil, length-append, unsigned_abs}
-use Rattle.std.specs.List.{list_any, flat_map, starts_with}
+use Rattle.std.proofs.Common.{◌≡◌, ◌==◌, ◌⊎◌, ◌<◌, ◌≤◌, ◌+◌, ℕ, ℤ, Bool, true, false, not, List, [], ◌∷◌, ◌++◌, length, get_or, map, filter, Result, Ok, Some, refl, sym, ap, ◌∙◌, subst, inl, inr, arith, append_assoc, append-nil, length-append, unsigned_abs}
+use Rattle.std.specs.List.{list_any, flat_map}
 use Rattle.std.proofs.lemmas.List.Elements.{filter-append}
 use Rattle.std.proofs.Math.ListN.{get_or-append}
 use Rattle.std.proofs.Math.Seq.{get_or-append_seam}
 use Rattle.raim_model.specs.declared.Span.{Span}
 use Rattle.raim_model.specs.declared.TextWhy.{TextWhy}
-use Rattle.raim_model.specs.declared.TextWhy.TheVariants.{Label, Short}
+use Rattle.raim_model.specs.declared.TextWhy.TheVariants.{Label}
 use Rattle.raim_model.specs.declared.Dec.{Dec}
 use Rattle.raim_model.specs.declared.Angle.TheVariants.{Rad}
 use Rattle.raim_model.specs.declared.AlmRecord.{AlmRecord}
 use Rattle.raim_model.specs.Decimal.{decimal}
-use Rattle.almanac_fields.specs.Prns.{fresh_prn_of}
 use Rattle.almanac_fields.proofs.Differing.{Differ, fresh_found}
 use Rattle.text_lines.specs.Lines.{Text}
 use Rattle.text_lines.specs.Words.{words_of, is_some_word, is_nonblank}
 use Rattle.text_lines.specs.Fields.{◌>>=◌, labelled, whole_value_in}
-use Rattle.text_lines.specs.Reading.{Reads, Accepts, RefusesLine, RefusesEnd, Refuses}
+use Rattle.text_lines.specs.Reading.{Accepts, RefusesLine, RefusesEnd, Refuses}
 use Rattle.text_lines.proofs.FieldLemmas.{bind_then, ok_is, ok_or_err, unless_then}
 use Rattle.text_lines.proofs.Parts.{open_part, none_open}
 use Rattle.text_lines.proofs.Rising.{none_before}

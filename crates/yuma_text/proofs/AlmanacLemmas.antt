@@ -1,27 +1,23 @@
 -- An accepted almanac means its records.
-use Rattle.std.proofs.Common.{◌≡◌, ◌≢◌, ◌==◌, ◌⊎◌, ◌<◌, ◌≤◌, ◌+◌, ◌||◌, ℕ, suc, zero, Bool, true, false, List, [], ◌∷◌, ◌++◌, length, take, get_or, map, filter, Result, Ok, Err, Option, Some, None, refl, sym, ap, ap₂, ◌∙◌, subst, inl, inr, arith, append_assoc, append-nil, length-append, unsigned_abs, All, AllPairs}
+use Rattle.std.proofs.Common.{◌≡◌, ◌==◌, ◌⊎◌, ◌<◌, ◌≤◌, ◌+◌, ℕ, suc, zero, true, false, List, [], ◌∷◌, ◌++◌, length, take, get_or, map, filter, Ok, None, refl, sym, ap, ap₂, ◌∙◌, subst, inl, inr, arith, append_assoc, append-nil, length-append, unsigned_abs}
 use Rattle.std.specs.List.{list_any, flat_map}
-use Rattle.std.proofs.lemmas.Bool.{eqb-true, eqb-false}
 use Rattle.std.proofs.lemmas.List.Elements.{filter-append}
 use Rattle.std.proofs.lemmas.Grind.{flat_map-append}
 use Rattle.std.proofs.lemmas.List.{map-append}
-use Rattle.std.proofs.Math.ListN.{get_or-append}
-use Rattle.std.proofs.Math.Seq.{get_or-append_seam, take-suc, take-length}
+use Rattle.std.proofs.Math.Seq.{take-suc, take-length}
 use Rattle.raim_model.specs.declared.Span.{Span}
-use Rattle.raim_model.specs.declared.TextWhy.{TextWhy}
-use Rattle.raim_model.specs.declared.TextWhy.TheVariants.{Short}
 use Rattle.raim_model.specs.declared.AlmRecord.{AlmRecord}
 use Rattle.almanac_fields.proofs.Differing.{Differ, differ_more, fresh_passes}
 use Rattle.text_lines.specs.Lines.{Text}
 use Rattle.text_lines.specs.Words.{is_nonblank}
-use Rattle.text_lines.specs.Reading.{Format, Reads, Accepts}
+use Rattle.text_lines.specs.Reading.{Reads, Accepts}
 use Rattle.yuma_text.specs.declared.line_kind.LineKind.{LineKind}
 use Rattle.yuma_text.specs.declared.line_kind.LineKind.TheVariants as kind
 use Rattle.yuma_text.specs.declared.record_entry.RecordEntry.{RecordEntry}
 use Rattle.yuma_text.specs.declared.record_entry.RecordEntry.TheVariants as entry
 use Rattle.yuma_text.specs.LineKinds.{kind_after}
 use Rattle.yuma_text.specs.Records.{RecordsSaid, yuma_lines, yuma_records, records_in, said_behind, said_next, records_first, record_entry_of, records_after, current_after, time_after, end_at, is_blank}
-use Rattle.yuma_text.specs.RecordDrafts.{HasRoom, FitsRoom}
+use Rattle.yuma_text.specs.RecordDrafts.{HasRoom}
 use Rattle.yuma_text.specs.Almanac.{record_at, IsAlmanac}
 use Rattle.yuma_text.proofs.LineFacts.{SaysLine, entry_says}
 use Rattle.yuma_text.proofs.RecordLemmas.{said_behind-append, room_more, HasRoomSaid}

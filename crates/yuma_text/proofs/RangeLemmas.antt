@@ -1,5 +1,5 @@
 -- The records of an accepted almanac are in their ranges, and apply to the flight.
-use Rattle.std.proofs.Common.{◌≡◌, ◌≤◌, ◌<◌, ◌⊎◌, ℕ, ℤ, pos, true, false, List, [], ◌∷◌, length, map, get_or, unsigned_abs, Result, Ok, Err, Option, Some, None, refl, sym, ap, ◌∙◌, subst, inl, inr, arith, All, zero, suc}
+use Rattle.std.proofs.Common.{◌≡◌, ◌≤◌, ℕ, ℤ, true, false, List, [], ◌∷◌, map, unsigned_abs, Result, Ok, subst, inl, arith, All, zero, suc}
 use Rattle.raim_model.specs.declared.TextWhy.{TextWhy}
 use Rattle.raim_model.specs.declared.TextWhy.TheVariants.{Number}
 use Rattle.raim_model.specs.declared.AlmRecord.{AlmRecord}
@@ -13,7 +13,7 @@ use Rattle.raim_model.specs.Ranges.{IsDecimalBetween}
 use Rattle.raim_model.specs.AlmanacRanges.{IsRadians, AreRecords}
 use Rattle.text_lines.specs.Lines.{Text}
 use Rattle.text_lines.specs.Words.{words_of, only_of}
-use Rattle.text_lines.specs.Fields.{◌>>=◌, or_else, labelled, whole_in, whole_value_in}
+use Rattle.text_lines.specs.Fields.{or_else, labelled, whole_in, whole_value_in}
 use Rattle.dec_text.specs.DecimalFields.{only_word, decimal_between}
 use Rattle.dec_text.proofs.Within.{between_within}
 use Rattle.text_lines.proofs.FieldLemmas.{bind_then, ok_is}
@@ -22,8 +22,8 @@ use Rattle.almanac_fields.proofs.RangeLemmas.{whole_within, toa_near, AreNear, I
 use Rattle.yuma_text.specs.declared.line_kind.LineKind.{LineKind}
 use Rattle.yuma_text.specs.declared.line_kind.LineKind.TheVariants as kind
 use Rattle.yuma_text.specs.LineKinds.{label_of}
-use Rattle.yuma_text.specs.Records.{zero as no_dec, decimal_value, angle_of, week_value, records_in}
-use Rattle.yuma_text.specs.Almanac.{value_at, title_at, prn_at, health_at, eccentricity_at, time_at, radians_at, inclination_at, rate_at, sqrt_a_at, angle_at, clock_at, toa_at, record_at, IsAlmanac}
+use Rattle.yuma_text.specs.Records.{zero as no_dec, decimal_value, week_value, records_in}
+use Rattle.yuma_text.specs.Almanac.{value_at, title_at, prn_at, health_at, eccentricity_at, time_at, radians_at, inclination_at, rate_at, sqrt_a_at, angle_at, clock_at, toa_at, record_at}
 use Rattle.yuma_text.specs.RecordAnswers.{SayRecords}
 use Rattle.yuma_text.proofs.AlmanacLemmas.{means_records}
 

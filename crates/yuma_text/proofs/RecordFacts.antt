@@ -1,5 +1,5 @@
 -- What the lines of a record that has begun say of the record that is current.
-use Rattle.std.proofs.Common.{◌≡◌, ◌&&◌, ℕ, ℤ, Bool, true, false, not, nat_eq, List, [], ◌∷◌, ◌++◌, Result, Ok, Err, refl, sym, ap, ◌∙◌, subst}
+use Rattle.std.proofs.Common.{◌≡◌, ◌&&◌, ℕ, ℤ, Bool, true, false, not, nat_eq, List, [], ◌∷◌, ◌++◌, Result, Ok, refl, ap, ◌∙◌}
 use Rattle.std.specs.List.{list_all}
 use Rattle.raim_model.specs.declared.TextWhy.{TextWhy}
 use Rattle.raim_model.specs.declared.AlmRecord.{AlmRecord}
@@ -12,7 +12,6 @@ use Rattle.yuma_text.specs.declared.line_kind.LineKind.{LineKind}
 use Rattle.yuma_text.specs.declared.line_kind.LineKind.TheVariants as kind
 use Rattle.yuma_text.specs.declared.record_entry.RecordEntry.{RecordEntry}
 use Rattle.yuma_text.specs.declared.record_entry.RecordEntry.TheVariants as entry
-use Rattle.yuma_text.specs.LineKinds.{kind_after}
 use Rattle.yuma_text.specs.Records.{RecordsSaid, current_after, time_after}
 use Rattle.yuma_text.specs.Almanac.{title_at, prn_at, health_at, eccentricity_at, time_at, inclination_at, rate_at, sqrt_a_at, angle_at, clock_at, toa_at, record_at}
 use Rattle.yuma_text.proofs.LineFacts.{SaysLine}

@@ -1,15 +1,9 @@
 -- One more line of an almanac.
-use Rattle.std.proofs.Common.{◌≡◌, ◌==◌, ◌⊎◌, ◌<◌, ℕ, Bool, true, false, nat_le, List, [], ◌∷◌, ◌++◌, length, Ok, refl, sym, ap, ◌∙◌, subst, inl, inr, arith}
-use Rattle.std.proofs.lemmas.Bool.Decides.{nat_tests}
-use Rattle.std.specs.List.{list_any}
+use Rattle.std.proofs.Common.{◌≡◌, ◌⊎◌, ℕ, true, false, List, [], ◌∷◌, ◌++◌, Ok, refl, sym, ap, ◌∙◌, subst, inl, inr}
 use Rattle.std.proofs.lemmas.List.Sums.{fold-append}
-use Rattle.raim_model.specs.declared.TextWhy.TheVariants.{PrnTwice}
-use Rattle.raim_model.specs.declared.AlmRecord.{AlmRecord}
-use Rattle.almanac_fields.specs.Prns.{fresh_prn_of}
 use Rattle.almanac_fields.proofs.Differing.{fresh_passes}
 use Rattle.text_lines.specs.Lines.{Text}
 use Rattle.text_lines.specs.Words.{is_nonblank}
-use Rattle.text_lines.specs.Fields.{unless}
 use Rattle.yuma_text.specs.declared.line_kind.LineKind.{LineKind}
 use Rattle.yuma_text.specs.declared.line_kind.LineKind.TheVariants as kind
 use Rattle.yuma_text.specs.declared.record_entry.RecordEntry.{RecordEntry}

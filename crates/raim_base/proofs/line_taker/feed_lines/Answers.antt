@@ -1,4 +1,4 @@
-use Rattle.std.proofs.Common.{rules, ◌≡◌, zero, suc, refl, List, [], ◌∷◌, Some, None, inr, ◌<◌, ◌≤◌, ◌+◌, ◌-◌, ℕ, min, length-take, ◌++◌, take, drop, length, ◌∙◌, sym, ap, subst, arith, length-append}
+use Rattle.std.proofs.Common.{rules, ◌≡◌, zero, suc, refl, [], ◌∷◌, Some, None, inr, ◌<◌, ◌≤◌, ◌+◌, ◌-◌, ℕ, min, length-take, ◌++◌, take, drop, length, ◌∙◌, subst, arith, length-append}
 use Rattle.std.proofs.lemmas.List.{take-append-le}
 use Rattle.std.proofs.lemmas.Grind.{common_steps}
 use Rattle.std.proofs.KnownBytes.{Consumes-trans}

@@ -1,10 +1,10 @@
-use Rattle.std.proofs.Common.{◌≡◌, ◌++◌, ◌∷◌, [], List, Option, None, true, false, ◌∙◌, refl, sym, ap, subst}
+use Rattle.std.proofs.Common.{◌++◌, ◌∷◌, [], List, Option, true, false, ◌∙◌, refl, sym, subst}
 use Rattle.raim_model.specs.declared.Span.{Span}
 use Rattle.raim_model.specs.declared.TextFault.{TextFault}
 use Rattle.text_lines.specs.Lines.{Text}
 use Rattle.alm_reader.specs.declared.reader.AlmanacReader.{AlmanacReader}
-use Rattle.alm_reader.specs.Almanacs.{is_separator, KnowsFault}
-use Rattle.alm_reader.specs.Readers.{IsReading, HasTaken, ReadsBy}
+use Rattle.alm_reader.specs.Almanacs.{KnowsFault}
+use Rattle.alm_reader.specs.Readers.{HasTaken, ReadsBy}
 use Rattle.alm_reader.proofs.ReaderLemmas.{failed_taken, failed_known, is_reading, separator_none, reading_none, line_read, line_fails, known_err}
 use Rattle.alm_reader.proofs.reader.AlmanacReader.feed_line.Goals as goal
 
@@ -52,5 +52,5 @@ returns-in-Err-clause-known c =
     known_err (λ f. (span : Span) (lines : List Text) → HasTaken span c.args.self.now lines → KnowsFault span (lines ++ c.args.line.now ∷ []) f.line f.why)
     c.fail.result _ c.fail.ensures.answer
     (λ span lines h.
-        let r = is_reading span c.args.self.now lines c.in_default.is h in
-        line_fails span c.args.self.now lines c.args.line.now r c.in-Err.own (sym c.separates.ensures ∙ c.if-separates.false) (c.in-Err.ensures.fails span r.section r.taken))
+    let r = is_reading span c.args.self.now lines c.in_default.is h in
+    line_fails span c.args.self.now lines c.args.line.now r c.in-Err.own (sym c.separates.ensures ∙ c.if-separates.false) (c.in-Err.ensures.fails span r.section r.taken))

@@ -1,5 +1,4 @@
-use Rattle.std.proofs.Common.{◌≡◌, ◌<◌, List, ◌∙◌, sym, ap, length, arith}
-use Rattle.raim_model.specs.declared.AlmRecord.{AlmRecord}
+use Rattle.std.proofs.Common.{◌<◌, ◌∙◌, length, arith}
 use Rattle.alm_reader.proofs.ReaderLemmas.{done_length, is_reading, end_accepted}
 use Rattle.alm_reader.specs.Almanacs.{SayAlmanacs, sections_of}
 use Rattle.alm_reader.proofs.RangeLemmas.{each_ranged}
