@@ -2,7 +2,7 @@
 ghost use Rattle.std.specs.Prelude.{◌≡◌};
 ghost use Rattle.raim_model.specs.Span.{IsFlight};
 
-use raim_model::{AlmRecord, Refusal, Span};
+use raim_model::{AlmRecord, Refusal, Span, WEEK_MS};
 use sem_text::read_sem;
 use std::alloc::Global;
 use yuma_text::read_yuma;
@@ -14,13 +14,14 @@ pub enum Form {
     Sem,
 }
 
-// The first second of 2024-10-27, as GPS counts.
-fn flight() -> Span
+// The first second of a week of GPS.
+fn flight_in(week: u16) -> Span
     ensures { IsFlight result }
 {
+    let first = i64::from(week) * WEEK_MS;
     Span {
-        first: 1_414_022_400_000,
-        end: 1_414_022_401_000,
+        first,
+        end: first + 1000,
     }
 }
 
@@ -33,10 +34,11 @@ impl Form {
         }
     }
 
-    pub fn read(self, alloc: Global, text: &[u8]) -> Result<Vec<AlmRecord>, Refusal> {
+    /// The records of a text, for a flight in the first second of the week.
+    pub fn read(self, alloc: Global, text: &[u8], week: u16) -> Result<Vec<AlmRecord>, Refusal> {
         match self {
-            Form::Yuma => read_yuma(alloc, text, flight()),
-            Form::Sem => read_sem(alloc, text, flight()),
+            Form::Yuma => read_yuma(alloc, text, flight_in(week)),
+            Form::Sem => read_sem(alloc, text, flight_in(week)),
         }
     }
 }

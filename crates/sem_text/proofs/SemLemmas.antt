@@ -1,31 +1,55 @@
 -- One more line of an almanac.
-use Rattle.std.proofs.Common.{◌≡◌, List, [], ◌∷◌, ◌++◌, sym, ap, ◌∙◌, unsigned_abs}
+use Rattle.std.proofs.Common.{◌≡◌, ◌⊎◌, ℕ, true, false, List, [], ◌∷◌, ◌++◌, Ok, refl, sym, ap, ◌∙◌, subst, inl, inr}
 use Rattle.std.proofs.lemmas.List.Sums.{fold-append}
-use Rattle.raim_model.specs.declared.Span.{Span}
+use Rattle.almanac_fields.proofs.Differing.{fresh_passes}
 use Rattle.text_lines.specs.Lines.{Text}
-use Rattle.text_lines.proofs.ReadingMore.{counts_more}
+use Rattle.text_lines.specs.Words.{is_nonblank}
+use Rattle.sem_text.specs.declared.line_kind.LineKind.{LineKind}
+use Rattle.sem_text.specs.declared.line_kind.LineKind.TheVariants as kind
 use Rattle.sem_text.specs.declared.entry.Entry.{Entry}
+use Rattle.sem_text.specs.declared.entry.Entry.TheVariants as entry
 use Rattle.sem_text.specs.declared.draft.Draft.{Draft}
-use Rattle.sem_text.specs.Sem.{Said, entry_of, said_first, said_behind, said_next, is_blank}
-use Rattle.sem_text.specs.Drafts.{said_by, IsDraft, IsAfter}
+use Rattle.sem_text.specs.LineKinds.{kind_after}
+use Rattle.sem_text.specs.Sem.{Said, said_first, said_behind, said_next, entry_of, records_after, is_blank}
+use Rattle.sem_text.specs.Drafts.{said_by, HasRoom, FitsRoom, IsDraft, IsAfter}
+use Rattle.sem_text.proofs.LineFacts.{SaysLine, entry_says}
 
 -- what is said after one more line
 pub said_behind-append : (entries : List Entry) (e : Entry) → said_behind (entries ++ e ∷ []) ≡ said_next (said_behind entries) e
 said_behind-append entries e = fold-append said_next said_first entries (e ∷ [])
 
--- the draft after one more line
-pub draft_more : (span : Span) (old new : Draft) (entries : List Entry) (e : Entry) → IsDraft span old entries → IsAfter old e new → IsDraft span new (entries ++ e ∷ [])
-draft_more span old new entries e d a = record {
-  first = a.first ∙ d.first;
-  end = a.end ∙ d.end;
-  said = a.said ∙ ap (λ (s : Said). said_next s e) d.said ∙ sym (said_behind-append entries e);
-  count = counts_more is_blank entries e old.count new.count d.count a.count;
-}
+-- the room behind a line that says something
+pub room_next : (first end : ℕ) (said : Said) (k : LineKind) (line : Text) (e : Entry) → SaysLine first end said k line e → HasRoom k said.records
+    → HasRoom (kind_after k) (records_after said.records said.current e) × FitsRoom said.records e × (is_blank e ≡ false)
+room_next first end said kind.Count line e s h = rw s.2 (tt, tt, refl)
+room_next first end said kind.WeekAndTime line e s h = rw s.2 (tt, tt, refl)
+room_next first end said kind.Prn line e s h = rw s.5 ((fresh_passes said.records s.0 s.3 s.4).1, tt, refl)
+room_next first end said kind.Svn line e s h = rw s.2 (h, tt, refl)
+room_next first end said kind.Ura line e s h = rw s.2 (h, tt, refl)
+room_next first end said kind.EccentricityInclinationRate line e s h = rw s.2 (h, tt, refl)
+room_next first end said kind.SqrtARightAscensionPerigee line e s h = rw s.2 (h, tt, refl)
+room_next first end said kind.MeanAnomalyAndClock line e s h = rw s.2 (h, tt, refl)
+room_next first end said kind.Health line e s h = rw s.2 (h, tt, refl)
+room_next first end said kind.Configuration line e s h = rw s.2 (tt, h, refl)
 
--- what the draft says of a line is what the format says
-pub says_of_draft : (span : Span) (draft : Draft) (entries : List Entry) (line : Text) → IsDraft span draft entries
-    → entry_of draft.flight.first draft.flight.end (said_by draft) line ≡ entry_of (unsigned_abs span.first) (unsigned_abs span.end) (said_behind entries) line
-says_of_draft span draft entries line d =
-    ap (λ n. entry_of n draft.flight.end (said_by draft) line) d.first
-    ∙ ap (λ n. entry_of (unsigned_abs span.first) n (said_by draft) line) d.end
-    ∙ ap (λ (s : Said). entry_of (unsigned_abs span.first) (unsigned_abs span.end) s line) d.said
+abbrev pub HasRoomSaid : Said → Type 0
+HasRoomSaid said = HasRoom said.kind said.records
+
+-- the room behind a line that passes
+pub room_more : (first end : ℕ) (said : Said) (line : Text) (e : Entry) → entry_of first end said line ≡ Ok e → HasRoomSaid said → HasRoomSaid (said_next said e) × FitsRoom said.records e
+room_more first end said line e h room = go (entry_says first end said line e h)
+  where
+    go : ((is_nonblank line ≡ false) × (e ≡ entry.Blank)) ⊎ ((is_nonblank line ≡ true) × SaysLine first end said said.kind line e) → HasRoomSaid (said_next said e) × FitsRoom said.records e
+    go (inl b) = rw b.1 (room, tt)
+    go (inr s) = let n = room_next first end said said.kind line e s.1 room in (rw n.2 n.0, n.1)
+
+-- the draft after one more line
+pub draft_more : (first end : ℕ) (old new : Draft) (entries : List Entry) (line : Text) (e : Entry) → IsDraft old entries
+    → entry_of first end (said_by old) line ≡ Ok e → IsAfter old e new → IsDraft new (entries ++ e ∷ [])
+draft_more first end old new entries line e d h a =
+    let more = room_more first end (said_by old) line e h d.room in
+    let said = a.said more.1 in
+    record {
+      said = said ∙ ap (λ (s : Said). said_next s e) d.said ∙ sym (said_behind-append entries e);
+      room = subst HasRoomSaid (sym said) more.0;
+    }

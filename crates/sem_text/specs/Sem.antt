@@ -1,5 +1,5 @@
 -- What a line of a SEM almanac says after those before it, or the first test that refuses it.
-use Rattle.std.specs.Prelude.{◌+◌, ℕ, pos, Bool, true, false, List, [], ◌∷◌, ◌++◌, Option, Some, None, Result, Ok, fold, length, nat_lt, nat_le, unsigned_abs, if◌then◌else◌}
+use Rattle.std.specs.Prelude.{◌+◌, ℕ, ℤ, pos, Bool, true, false, List, [], ◌∷◌, ◌++◌, Option, Some, None, Result, Ok, fold, length, nat_lt, nat_le, unsigned_abs, if◌then◌else◌}
 use Rattle.raim_model.specs.declared.TextWhy.{TextWhy}
 use Rattle.raim_model.specs.declared.TextWhy.TheVariants as why
 use Rattle.raim_model.specs.declared.Dec.{Dec}
@@ -10,7 +10,7 @@ use Rattle.raim_model.specs.Decimal.{decimal}
 use Rattle.text_lines.specs.Lines.{Text}
 use Rattle.text_lines.specs.Words.{words_of, only_of, pair_of, triple_of}
 use Rattle.text_lines.specs.Fields.{◌>>=◌, unless, or_else, any_whole, whole_in}
-use Rattle.text_lines.specs.Reading.{Format, last_solid_line}
+use Rattle.text_lines.specs.Reading.{Format}
 use Rattle.dec_text.specs.DecimalFields.{any_decimal, in_bounds}
 use Rattle.almanac_fields.specs.Prns.{fresh_prn_of}
 use Rattle.almanac_fields.specs.Times.{whole_ms_of, toa_of}
@@ -24,7 +24,7 @@ use Rattle.sem_text.specs.LineKinds.{kind_after}
 -- that is current, and the whole records
 pub record Said : Type 0 where
   pub kind : LineKind
-  pub said : ℕ
+  pub declared : ℕ
   pub current : AlmRecord
   pub records : List AlmRecord
 
@@ -47,7 +47,7 @@ blank_record = record {
 }
 
 abbrev pub said_first : Said
-said_first = record { kind = kind.Count; said = 0; current = blank_record; records = [] }
+said_first = record { kind = kind.Count; declared = 0; current = blank_record; records = [] }
 
 abbrev pub is_blank : Entry → Bool
 is_blank entry.Blank = true
@@ -59,11 +59,11 @@ count_after before _ = before
 
 -- the current record with what a line says of it; the time of applicability is that of all records
 abbrev pub current_after : AlmRecord → Entry → AlmRecord
-current_after current (entry.Week toa) = record current { toa_ms = toa }
+current_after current (entry.TimeOfApplicability toa) = record current { toa_ms = toa }
 current_after current (entry.Prn prn) = record current { prn = prn }
-current_after current (entry.Shape e offset rate) = record current { e = e; incl = Semi30 offset; rate = Semi rate }
-current_after current (entry.Plane sqrt_a node perigee) = record current { sqrt_a = sqrt_a; omega0 = Semi node; perigee = Semi perigee }
-current_after current (entry.Phase anomaly) = record current { m0 = Semi anomaly }
+current_after current (entry.EccentricityInclinationRate e offset rate) = record current { e = e; incl = Semi30 offset; rate = Semi rate }
+current_after current (entry.SqrtARightAscensionPerigee sqrt_a right_ascension perigee) = record current { sqrt_a = sqrt_a; omega0 = Semi right_ascension; perigee = Semi perigee }
+current_after current (entry.MeanAnomaly mean_anomaly) = record current { m0 = Semi mean_anomaly }
 current_after current (entry.Health health) = record current { health = health }
 current_after current entry.Blank = current
 current_after current (entry.Count n) = current
@@ -79,7 +79,7 @@ records_after records current _ = records
 abbrev pub said_next : Said → Entry → Said
 said_next said e = record {
   kind = if is_blank e then said.kind else kind_after said.kind;
-  said = count_after said.said e;
+  declared = count_after said.declared e;
   current = current_after said.current e;
   records = records_after said.records said.current e;
 }
@@ -92,45 +92,41 @@ abbrev pub records_in : List Entry → List AlmRecord
 records_in entries = (said_behind entries).records
 
 -- 1 to 32 records; a name may follow
-abbrev pub count_of : Text → Result Entry TextWhy
-count_of word = do
-  n ← whole_in 1 32 word
-  Ok (entry.Count n)
+abbrev pub count_of : Text → Result ℕ TextWhy
+count_of word = whole_in 1 32 word
 
--- both are numbers, and then each is in its range
-abbrev pub week_and_time_of : (first end : ℕ) → Text → Text → Result Entry TextWhy
+-- both are numbers, and then each is in its range; the time of applicability is in milliseconds since the GPS epoch
+abbrev pub week_and_time_of : (first end : ℕ) → Text → Text → Result ℤ TextWhy
 week_and_time_of first end w t = do
   week ← any_whole w
   seconds ← any_decimal t
   unless (nat_lt 9999 week) why.Range (do
     time ← whole_ms_of seconds
-    toa ← toa_of first end time week
-    Ok (entry.Week toa))
+    toa_of first end time week)
 
-abbrev pub week_of : (first end : ℕ) → List Text → Result Entry TextWhy
-week_of first end words = do
+abbrev pub time_of_applicability_of : (first end : ℕ) → List Text → Result ℤ TextWhy
+time_of_applicability_of first end words = do
   pair ← or_else why.Label (pair_of words)
   week_and_time_of first end pair.0 pair.1
 
-abbrev pub prn_of_word : List AlmRecord → Text → Result Entry TextWhy
-prn_of_word records word = do
-  prn ← whole_in 1 32 word
-  fresh ← fresh_prn_of records prn
-  Ok (entry.Prn fresh)
+-- the PRN of a record, from 1 to 32
+abbrev pub prn_of : List Text → Result ℕ TextWhy
+prn_of words = do
+  word ← or_else why.Label (only_of words)
+  whole_in 1 32 word
 
 -- a further record, where the almanac has fewer than it says; there is one more than it says otherwise
-abbrev pub prn_of : ℕ → List AlmRecord → List Text → Result Entry TextWhy
-prn_of said records words =
-    unless (nat_le said (length records)) (why.CountDiffers said (said + 1)) (do
-      word ← or_else why.Label (only_of words)
-      prn_of_word records word)
+abbrev pub next_prn_of : ℕ → List AlmRecord → List Text → Result ℕ TextWhy
+next_prn_of declared records words =
+    unless (nat_le declared (length records)) (why.CountDiffers declared (declared + 1)) (do
+      prn ← prn_of words
+      fresh_prn_of records prn)
 
 -- a whole number that is not used
-abbrev pub unused_of : Entry → List Text → Result Entry TextWhy
-unused_of e words = do
+abbrev pub unused_of : List Text → Result ℕ TextWhy
+unused_of words = do
   word ← or_else why.Label (only_of words)
-  n ← any_whole word
-  Ok e
+  any_whole word
 
 -- three numbers
 abbrev pub decimals_in : Text × Text × Text → Result (Dec × Dec × Dec) TextWhy
@@ -146,51 +142,55 @@ three_decimals_of words = do
   decimals_in ws
 
 -- eccentricity, inclination above 0.30 semicircles, rate of right ascension
-abbrev pub shape_of : List Text → Result Entry TextWhy
-shape_of words = do
+abbrev pub eccentricity_inclination_rate_of : List Text → Result (Dec × Dec × Dec) TextWhy
+eccentricity_inclination_rate_of words = do
   ds ← three_decimals_of words
   e ← in_bounds zero (decimal false 3125 5) ds.0
   offset ← in_bounds (decimal true 3 1) (decimal false 7 1) ds.1
   rate ← in_bounds (decimal true 1 6) (decimal false 1 6) ds.2
-  Ok (entry.Shape e offset rate)
+  Ok (e, offset, rate)
 
 -- an angle of at most 4 semicircles either way
 abbrev pub angle_of : Dec → Result Dec TextWhy
 angle_of d = in_bounds (decimal true 4 0) (decimal false 4 0) d
 
 -- square root of the semi-major axis, right ascension, argument of perigee
-abbrev pub plane_of : List Text → Result Entry TextWhy
-plane_of words = do
+abbrev pub sqrt_a_right_ascension_perigee_of : List Text → Result (Dec × Dec × Dec) TextWhy
+sqrt_a_right_ascension_perigee_of words = do
   ds ← three_decimals_of words
   sqrt_a ← in_bounds (decimal false 4000 0) (decimal false 7000 0) ds.0
-  node ← angle_of ds.1
+  right_ascension ← angle_of ds.1
   perigee ← angle_of ds.2
-  Ok (entry.Plane sqrt_a node perigee)
+  Ok (sqrt_a, right_ascension, perigee)
 
 -- mean anomaly; two clock terms may be any decimals, and are not used
-abbrev pub phase_of : List Text → Result Entry TextWhy
-phase_of words = do
+abbrev pub mean_anomaly_and_clock_of : List Text → Result Dec TextWhy
+mean_anomaly_and_clock_of words = do
   ds ← three_decimals_of words
-  anomaly ← angle_of ds.0
-  Ok (entry.Phase anomaly)
+  angle_of ds.0
 
-abbrev pub health_of : List Text → Result Entry TextWhy
+abbrev pub health_of : List Text → Result ℕ TextWhy
 health_of words = do
   word ← or_else why.Label (only_of words)
-  health ← whole_in 0 255 word
-  Ok (entry.Health health)
+  whole_in 0 255 word
+
+-- the entry that a value makes
+abbrev pub made : {A : Type 0} → (A → Entry) → Result A TextWhy → Result Entry TextWhy
+made entry_of value = do
+  x ← value
+  Ok (entry_of x)
 
 abbrev pub line_entry_of : (first end : ℕ) → Said → LineKind → Text → List Text → Result Entry TextWhy
-line_entry_of first end said kind.Count word words = count_of word
-line_entry_of first end said kind.Week word words = week_of first end words
-line_entry_of first end said kind.Prn word words = prn_of said.said said.records words
-line_entry_of first end said kind.Svn word words = unused_of entry.Unused words
-line_entry_of first end said kind.Ura word words = unused_of entry.Unused words
-line_entry_of first end said kind.Shape word words = shape_of words
-line_entry_of first end said kind.Plane word words = plane_of words
-line_entry_of first end said kind.Phase word words = phase_of words
-line_entry_of first end said kind.Health word words = health_of words
-line_entry_of first end said kind.Configuration word words = unused_of entry.Configuration words
+line_entry_of first end said kind.Count word words = made (λ n. entry.Count n) (count_of word)
+line_entry_of first end said kind.WeekAndTime word words = made (λ toa. entry.TimeOfApplicability toa) (time_of_applicability_of first end words)
+line_entry_of first end said kind.Prn word words = made (λ prn. entry.Prn prn) (next_prn_of said.declared said.records words)
+line_entry_of first end said kind.Svn word words = made (λ n. entry.Unused) (unused_of words)
+line_entry_of first end said kind.Ura word words = made (λ n. entry.Unused) (unused_of words)
+line_entry_of first end said kind.EccentricityInclinationRate word words = made (λ ds. entry.EccentricityInclinationRate ds.0 ds.1 ds.2) (eccentricity_inclination_rate_of words)
+line_entry_of first end said kind.SqrtARightAscensionPerigee word words = made (λ ds. entry.SqrtARightAscensionPerigee ds.0 ds.1 ds.2) (sqrt_a_right_ascension_perigee_of words)
+line_entry_of first end said kind.MeanAnomalyAndClock word words = made (λ d. entry.MeanAnomaly d) (mean_anomaly_and_clock_of words)
+line_entry_of first end said kind.Health word words = made (λ health. entry.Health health) (health_of words)
+line_entry_of first end said kind.Configuration word words = made (λ n. entry.Configuration) (unused_of words)
 
 abbrev pub words_entry_of : (first end : ℕ) → Said → List Text → Result Entry TextWhy
 words_entry_of first end said [] = Ok entry.Blank
@@ -201,13 +201,16 @@ entry_of first end said line = words_entry_of first end said (words_of line)
 
 -- the file ends before its second line or inside a record, or with fewer records than it says
 abbrev pub end_at : LineKind → ℕ → List AlmRecord → Option TextWhy
-end_at kind.Prn said records = if nat_lt (length records) said then Some (why.CountDiffers said (length records)) else None
-end_at _ said records = Some why.Short
+end_at kind.Prn declared records = if nat_lt (length records) declared then Some (why.CountDiffers declared (length records)) else None
+end_at _ declared records = Some why.Short
 
--- as many records as the first line says
-abbrev pub sem_records : Span → Format Entry TextWhy
-sem_records span = record {
-  says = λ entries line. entry_of (unsigned_abs span.first) (unsigned_abs span.end) (said_behind entries) line;
-  at_end = λ entries. end_at (said_behind entries).kind (said_behind entries).said (said_behind entries).records;
-  end_line = λ entries. last_solid_line is_blank entries;
+-- as many records as the first line says, for a flight from first to end
+abbrev pub sem_lines : (first end : ℕ) → Format Entry TextWhy
+sem_lines first end = record {
+  says = λ entries line. entry_of first end (said_behind entries) line;
+  at_end = λ entries. end_at (said_behind entries).kind (said_behind entries).declared (said_behind entries).records;
+  is_blank = is_blank;
 }
+
+abbrev pub sem_records : Span → Format Entry TextWhy
+sem_records span = sem_lines (unsigned_abs span.first) (unsigned_abs span.end)

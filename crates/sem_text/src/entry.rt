@@ -17,40 +17,41 @@ use text_lines::{next_word, only_word, read_whole, read_whole_in, three_words, t
 pub(crate) enum Entry {
     Blank,
     Count(u8),
-    // the time of applicability, in milliseconds since the GPS epoch
-    Week(i64),
+    // in milliseconds since the GPS epoch
+    TimeOfApplicability(i64),
     Prn(u8),
     // a whole number that is not used
     Unused,
     // eccentricity, inclination above 0.30 semicircles, rate of right ascension
-    Shape(Dec, Dec, Dec),
+    EccentricityInclinationRate(Dec, Dec, Dec),
     // square root of the semi-major axis, right ascension, argument of perigee
-    Plane(Dec, Dec, Dec),
-    // mean anomaly
-    Phase(Dec),
+    SqrtARightAscensionPerigee(Dec, Dec, Dec),
+    MeanAnomaly(Dec),
     Health(u8),
     Configuration,
 }
 
-const fn decimal(neg: bool, digits: u64, places: u8) -> Dec
-    ensures { result ≡ record { neg = neg; digits = digits; places = places } }
-{
-    Dec {
-        neg,
-        digits,
-        places,
+impl Entry {
+    pub(crate) fn is_blank(self) -> bool
+        ensures { result ≡ sem.is_blank self }
+    {
+        match self {
+            Entry::Blank => true,
+            _ => false,
+        }
     }
 }
 
-fn count(word: &[u8]) -> Result<Entry, TextWhy>
+// How many records there are to be; a name may follow.
+fn count(word: &[u8]) -> Result<u8, TextWhy>
     ensures { result ≡ sem.count_of word.now }
 {
     let count = read_whole_in(word, 1, 32)?;
-    Ok(Entry::Count(count as u8))
+    Ok(count as u8)
 }
 
 // The week and the time in it: both are numbers before a range is tested.
-fn week_and_time(draft: &Draft, week: &[u8], time: &[u8]) -> Result<Entry, TextWhy>
+fn week_and_time(draft: &Draft, week: &[u8], time: &[u8]) -> Result<i64, TextWhy>
     ensures { result ≡ sem.week_and_time_of draft.now.flight.first draft.now.flight.end week.now time.now }
 {
     let week = read_whole(week)?;
@@ -59,12 +60,11 @@ fn week_and_time(draft: &Draft, week: &[u8], time: &[u8]) -> Result<Entry, TextW
         return Err(TextWhy::Range);
     }
     let time = whole_ms(seconds)?;
-    let toa = time_of_applicability(draft.flight, week as u32, time)?;
-    Ok(Entry::Week(toa))
+    time_of_applicability(draft.flight, week as u32, time)
 }
 
-fn week(draft: &Draft, line: &[u8]) -> Result<Entry, TextWhy>
-    ensures { result ≡ sem.week_of draft.now.flight.first draft.now.flight.end (words_of line.now) }
+fn time_in_full(draft: &Draft, line: &[u8]) -> Result<i64, TextWhy>
+    ensures { result ≡ sem.time_of_applicability_of draft.now.flight.first draft.now.flight.end (words_of line.now) }
 {
     match two_words(line) {
         Some((week, time)) => week_and_time(draft, week, time),
@@ -72,38 +72,37 @@ fn week(draft: &Draft, line: &[u8]) -> Result<Entry, TextWhy>
     }
 }
 
-fn prn_of_word(draft: &Draft, word: &[u8]) -> Result<Entry, TextWhy>
-    ensures { result ≡ sem.prn_of_word draft.now.records.items word.now }
+fn prn(line: &[u8]) -> Result<u8, TextWhy>
+    ensures { result ≡ sem.prn_of (words_of line.now) }
 {
-    let prn = read_whole_in(word, 1, 32)?;
-    let prn = fresh_prn(draft.records.as_slice(), prn as u8)?;
-    Ok(Entry::Prn(prn))
-}
-
-// A record begins, where the almanac has as many as it says.
-fn prn(draft: &Draft, line: &[u8]) -> Result<Entry, TextWhy>
-    ensures { result ≡ sem.prn_of draft.now.said draft.now.records.items (words_of line.now) }
-{
-    if draft.records.len() >= usize::from(draft.said) {
-        let said = u32::from(draft.said);
-        let found = said + 1;
-        return Err(TextWhy::CountDiffers { said, found });
-    }
     match only_word(line) {
-        Some(word) => prn_of_word(draft, word),
+        Some(word) => {
+            let prn = read_whole_in(word, 1, 32)?;
+            Ok(prn as u8)
+        }
         None => Err(TextWhy::Label),
     }
 }
 
+// A record begins, where the almanac has fewer than it says.
+fn next_prn(draft: &Draft, line: &[u8]) -> Result<u8, TextWhy>
+    ensures { result ≡ sem.next_prn_of draft.now.declared draft.now.records (words_of line.now) }
+{
+    if draft.records.as_slice().len() >= usize::from(draft.declared) {
+        let said = u32::from(draft.declared);
+        let found = said + 1;
+        return Err(TextWhy::CountDiffers { said, found });
+    }
+    let prn = prn(line)?;
+    fresh_prn(draft.records.as_slice(), prn)
+}
+
 // A whole number that is not used.
-fn unused(line: &[u8], entry: Entry) -> Result<Entry, TextWhy>
-    ensures { result ≡ sem.unused_of entry (words_of line.now) }
+fn unused(line: &[u8]) -> Result<u64, TextWhy>
+    ensures { result ≡ sem.unused_of (words_of line.now) }
 {
     match only_word(line) {
-        Some(word) => {
-            read_whole(word)?;
-            Ok(entry)
-        }
+        Some(word) => read_whole(word),
         None => Err(TextWhy::Label),
     }
 }
@@ -124,14 +123,14 @@ fn three_decimals(line: &[u8]) -> Result<(Dec, Dec, Dec), TextWhy>
     }
 }
 
-fn shape(line: &[u8]) -> Result<Entry, TextWhy>
-    ensures { result ≡ sem.shape_of (words_of line.now) }
+fn eccentricity_inclination_rate(line: &[u8]) -> Result<(Dec, Dec, Dec), TextWhy>
+    ensures { result ≡ sem.eccentricity_inclination_rate_of (words_of line.now) }
 {
     let (e, offset, rate) = three_decimals(line)?;
-    let e = check_between(e, decimal(false, 0, 0), decimal(false, 3125, 5))?;
-    let offset = check_between(offset, decimal(true, 3, 1), decimal(false, 7, 1))?;
-    let rate = check_between(rate, decimal(true, 1, 6), decimal(false, 1, 6))?;
-    Ok(Entry::Shape(e, offset, rate))
+    let e = check_between(e, Dec::ZERO, Dec::new(false, 3125, 5))?;
+    let offset = check_between(offset, Dec::new(true, 3, 1), Dec::new(false, 7, 1))?;
+    let rate = check_between(rate, Dec::new(true, 1, 6), Dec::new(false, 1, 6))?;
+    Ok((e, offset, rate))
 }
 
 // An angle of at most 4 semicircles either way.
@@ -139,56 +138,74 @@ fn angle(value: Dec) -> Result<Dec, TextWhy>
     requires { IsCanonical value }
     ensures { result ≡ sem.angle_of value }
 {
-    check_between(value, decimal(true, 4, 0), decimal(false, 4, 0))
+    check_between(value, Dec::whole(true, 4), Dec::whole(false, 4))
 }
 
-fn plane(line: &[u8]) -> Result<Entry, TextWhy>
-    ensures { result ≡ sem.plane_of (words_of line.now) }
+fn sqrt_a_right_ascension_perigee(line: &[u8]) -> Result<(Dec, Dec, Dec), TextWhy>
+    ensures { result ≡ sem.sqrt_a_right_ascension_perigee_of (words_of line.now) }
 {
-    let (sqrt_a, node, perigee) = three_decimals(line)?;
-    let sqrt_a = check_between(sqrt_a, decimal(false, 4000, 0), decimal(false, 7000, 0))?;
-    let node = angle(node)?;
+    let (sqrt_a, right_ascension, perigee) = three_decimals(line)?;
+    let sqrt_a = check_between(sqrt_a, Dec::whole(false, 4000), Dec::whole(false, 7000))?;
+    let right_ascension = angle(right_ascension)?;
     let perigee = angle(perigee)?;
-    Ok(Entry::Plane(sqrt_a, node, perigee))
+    Ok((sqrt_a, right_ascension, perigee))
 }
 
-fn phase(line: &[u8]) -> Result<Entry, TextWhy>
-    ensures { result ≡ sem.phase_of (words_of line.now) }
+fn mean_anomaly_and_clock(line: &[u8]) -> Result<Dec, TextWhy>
+    ensures { result ≡ sem.mean_anomaly_and_clock_of (words_of line.now) }
 {
-    let (anomaly, _, _) = three_decimals(line)?;
-    let anomaly = angle(anomaly)?;
-    Ok(Entry::Phase(anomaly))
+    let (mean_anomaly, _, _) = three_decimals(line)?;
+    angle(mean_anomaly)
 }
 
-fn health(line: &[u8]) -> Result<Entry, TextWhy>
+fn health(line: &[u8]) -> Result<u8, TextWhy>
     ensures { result ≡ sem.health_of (words_of line.now) }
 {
     match only_word(line) {
         Some(word) => {
             let health = read_whole_in(word, 0, 255)?;
-            Ok(Entry::Health(health as u8))
+            Ok(health as u8)
         }
         None => Err(TextWhy::Label),
     }
+}
+
+// What a line of the kind that is expected says.
+fn line_entry(draft: &Draft, word: &[u8], line: &[u8]) -> Result<Entry, TextWhy>
+    ensures { result ≡ sem.line_entry_of draft.now.flight.first draft.now.flight.end (said_by draft.now) draft.now.kind word.now (words_of line.now) }
+{
+    let entry = match draft.kind {
+        LineKind::Count => Entry::Count(count(word)?),
+        LineKind::WeekAndTime => Entry::TimeOfApplicability(time_in_full(draft, line)?),
+        LineKind::Prn => Entry::Prn(next_prn(draft, line)?),
+        LineKind::Svn | LineKind::Ura => {
+            unused(line)?;
+            Entry::Unused
+        }
+        LineKind::EccentricityInclinationRate => {
+            let (e, offset, rate) = eccentricity_inclination_rate(line)?;
+            Entry::EccentricityInclinationRate(e, offset, rate)
+        }
+        LineKind::SqrtARightAscensionPerigee => {
+            let (sqrt_a, right_ascension, perigee) = sqrt_a_right_ascension_perigee(line)?;
+            Entry::SqrtARightAscensionPerigee(sqrt_a, right_ascension, perigee)
+        }
+        LineKind::MeanAnomalyAndClock => Entry::MeanAnomaly(mean_anomaly_and_clock(line)?),
+        LineKind::Health => Entry::Health(health(line)?),
+        LineKind::Configuration => {
+            unused(line)?;
+            Entry::Configuration
+        }
+    };
+    Ok(entry)
 }
 
 // What a line says after those before it, or the first test that refuses it.
 pub(crate) fn read_entry(draft: &Draft, line: &[u8]) -> Result<Entry, TextWhy>
     ensures { result ≡ sem.entry_of draft.now.flight.first draft.now.flight.end (said_by draft.now) line.now }
 {
-    let Some((word, _)) = next_word(line) else {
-        return Ok(Entry::Blank);
-    };
-    match draft.kind {
-        LineKind::Count => count(word),
-        LineKind::Week => week(draft, line),
-        LineKind::Prn => prn(draft, line),
-        LineKind::Svn => unused(line, Entry::Unused),
-        LineKind::Ura => unused(line, Entry::Unused),
-        LineKind::Shape => shape(line),
-        LineKind::Plane => plane(line),
-        LineKind::Phase => phase(line),
-        LineKind::Health => health(line),
-        LineKind::Configuration => unused(line, Entry::Configuration),
+    match next_word(line) {
+        Some((word, _)) => line_entry(draft, word, line),
+        None => Ok(Entry::Blank),
     }
 }

@@ -1,6 +1,13 @@
+pub mod FieldLemmas
+pub mod Parts
 pub mod Cuts
 pub mod CuttingLaws
 pub mod ReadingMore
 pub mod ReadingLaws
 pub mod NumberLemmas
 pub mod LabelLemmas
+pub mod ReaderLemmas
+pub mod SomeReading
+pub mod Feeds
+pub mod Rising
+pub mod Sorting

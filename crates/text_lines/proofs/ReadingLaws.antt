@@ -4,7 +4,7 @@ use Rattle.std.proofs.Math.ListN.{get_or-append}
 use Rattle.std.proofs.Math.Seq.{get_or-append_seam, take-suc, take-length}
 use Rattle.std.proofs.lemmas.List.{length-take-le, get_or-take, take-take}
 use Rattle.text_lines.specs.Lines.{Text}
-use Rattle.text_lines.specs.Reading.{Format, Reads, Accepts, RefusesLine, Refuses, number_after}
+use Rattle.text_lines.specs.Reading.{Format, Reads, Accepts, RefusesLine, Refuses, number_after, last_nonblank_line}
 
 module _ {E W : Type 0} (format : Format E W) where
   -- the same entries as far as k
@@ -121,4 +121,4 @@ module _ {E W : Type 0} (format : Format E W) where
   refused_once lines number other why cause (inr f) (inr g) =
       let same = same_entries format lines f.entries g.entries f.reads g.reads in
       let cause_same = sym f.ends ∙ ap format.at_end same ∙ g.ends in
-      (f.numbered ∙ ap format.end_line same ∙ sym g.numbered, cc)
+      (f.numbered ∙ ap (last_nonblank_line format.is_blank) same ∙ sym g.numbered, cc)

@@ -12,8 +12,8 @@ pub record Format (E W : Type 0) : Type 0 where
   pub says : List E → Text → Result E W
   -- the test that refuses the end of a file
   pub at_end : List E → Option W
-  -- the line that a fault of the end has
-  pub end_line : List E → ℕ
+  -- whether the line was blank
+  pub is_blank : E → Bool
 
 -- each line passes, and says its entry after the entries before it
 pub record Reads {E W : Type 0} (format : Format E W) (lines : List Text) (entries : List E) : Type 0 where
@@ -36,22 +36,22 @@ pub record RefusesLine {E W : Type 0} (format : Format E W) (lines : List Text) 
   pub here : format.says entries line ≡ Err why
   pub numbered : number ≡ number_after (length done)
 
--- every line passes, and the end does not
+-- how many lines there are up to the last that is not blank
+abbrev pub nonblank_len : {E : Type 0} → (E → Bool) → List E → ℕ
+nonblank_len is_blank [] = 0
+nonblank_len is_blank (e ∷ es) = if nonblank_len is_blank es == 0 then (if is_blank e then 0 else 1) else nonblank_len is_blank es + 1
+
+-- the number of the last line that is not blank, 0 where there is none
+abbrev pub last_nonblank_line : {E : Type 0} → (E → Bool) → List E → ℕ
+last_nonblank_line is_blank entries = min (nonblank_len is_blank entries) (2 ^ 32 - 1)
+
+-- every line passes, and the end does not: the fault has the number of the last line that is not blank
 pub record RefusesEnd {E W : Type 0} (format : Format E W) (lines : List Text) (number : ℕ) (why : W) : Type 0 where
   pub entries : List E
   pub reads : Reads format lines entries
   pub ends : format.at_end entries ≡ Some why
-  pub numbered : number ≡ format.end_line entries
+  pub numbered : number ≡ last_nonblank_line format.is_blank entries
 
 -- the file is refused, at this line for this cause
 abbrev pub Refuses : {E W : Type 0} → Format E W → List Text → ℕ → W → Type 0
 Refuses format lines number why = RefusesLine format lines number why ⊎ RefusesEnd format lines number why
-
--- how many lines there are up to the last that is not blank
-abbrev pub solid_len : {E : Type 0} → (E → Bool) → List E → ℕ
-solid_len is_blank [] = 0
-solid_len is_blank (e ∷ es) = if solid_len is_blank es == 0 then (if is_blank e then 0 else 1) else solid_len is_blank es + 1
-
--- the number of the last line that is not blank, 0 where there is none
-abbrev pub last_solid_line : {E : Type 0} → (E → Bool) → List E → ℕ
-last_solid_line is_blank entries = min (solid_len is_blank entries) (2 ^ 32 - 1)

@@ -1,31 +1,59 @@
 -- One more line of an almanac.
-use Rattle.std.proofs.Common.{◌≡◌, List, [], ◌∷◌, ◌++◌, sym, ap, ◌∙◌, unsigned_abs}
+use Rattle.std.proofs.Common.{◌≡◌, ◌⊎◌, ℕ, true, false, List, [], ◌∷◌, ◌++◌, Ok, refl, sym, ap, ◌∙◌, subst, inl, inr}
 use Rattle.std.proofs.lemmas.List.Sums.{fold-append}
-use Rattle.raim_model.specs.declared.Span.{Span}
+use Rattle.almanac_fields.proofs.Differing.{fresh_passes}
 use Rattle.text_lines.specs.Lines.{Text}
-use Rattle.text_lines.proofs.ReadingMore.{counts_more}
+use Rattle.text_lines.specs.Words.{is_nonblank}
+use Rattle.yuma_text.specs.declared.line_kind.LineKind.{LineKind}
+use Rattle.yuma_text.specs.declared.line_kind.LineKind.TheVariants as kind
 use Rattle.yuma_text.specs.declared.record_entry.RecordEntry.{RecordEntry}
+use Rattle.yuma_text.specs.declared.record_entry.RecordEntry.TheVariants as entry
 use Rattle.yuma_text.specs.declared.record_draft.RecordDraft.{RecordDraft}
-use Rattle.yuma_text.specs.Records.{RecordsSaid, record_entry_of, records_first, said_behind, said_next, is_blank_line}
-use Rattle.yuma_text.specs.RecordDrafts.{said_by, IsDraft, IsAfter}
+use Rattle.yuma_text.specs.LineKinds.{kind_after}
+use Rattle.yuma_text.specs.Records.{RecordsSaid, records_first, said_behind, said_next, record_entry_of, records_after, current_after, is_blank}
+use Rattle.yuma_text.specs.RecordDrafts.{said_by, HasRoom, FitsRoom, IsDraft, IsAfter}
+use Rattle.yuma_text.proofs.LineFacts.{SaysLine, entry_says}
 
 -- what is said after one more line
 pub said_behind-append : (entries : List RecordEntry) (e : RecordEntry) → said_behind (entries ++ e ∷ []) ≡ said_next (said_behind entries) e
 said_behind-append entries e = fold-append said_next records_first entries (e ∷ [])
 
--- the draft after one more line
-pub draft_more : (span : Span) (old new : RecordDraft) (entries : List RecordEntry) (e : RecordEntry) → IsDraft span old entries → IsAfter old e new → IsDraft span new (entries ++ e ∷ [])
-draft_more span old new entries e d a = record {
-  first = a.first ∙ d.first;
-  end = a.end ∙ d.end;
-  said = a.said ∙ ap (λ (s : RecordsSaid). said_next s e) d.said ∙ sym (said_behind-append entries e);
-  count = counts_more is_blank_line entries e old.count new.count d.count a.count;
-}
+-- the room behind a line that says something
+room_next : (first end : ℕ) (said : RecordsSaid) (k : LineKind) (line : Text) (e : RecordEntry) → SaysLine first end said k line e → HasRoom k said.records
+    → HasRoom (kind_after k) (records_after said.records (current_after said.current e) e) × FitsRoom said.records e × (is_blank e ≡ false)
+room_next first end said kind.Title line e s h = rw s.2 (tt, tt, refl)
+room_next first end said kind.Prn line e s h = rw s.4 ((fresh_passes said.records s.0 s.2 s.3).1, tt, refl)
+room_next first end said kind.Health line e s h = rw s.2 (h, tt, refl)
+room_next first end said kind.Eccentricity line e s h = rw s.2 (h, tt, refl)
+room_next first end said kind.TimeInWeek line e s h = rw s.2 (h, tt, refl)
+room_next first end said kind.Inclination line e s h = rw s.2 (h, tt, refl)
+room_next first end said kind.RateOfRightAscension line e s h = rw s.2 (h, tt, refl)
+room_next first end said kind.SqrtA line e s h = rw s.2 (h, tt, refl)
+room_next first end said kind.RightAscension line e s h = rw s.2 (h, tt, refl)
+room_next first end said kind.ArgumentOfPerigee line e s h = rw s.2 (h, tt, refl)
+room_next first end said kind.MeanAnomaly line e s h = rw s.2 (h, tt, refl)
+room_next first end said kind.Af0 line e s h = rw s.2 (h, tt, refl)
+room_next first end said kind.Af1 line e s h = rw s.2 (h, tt, refl)
+room_next first end said kind.Week line e s h = rw s.2 (tt, h, refl)
 
--- what the draft says of a line is what the format says
-pub says_of_draft : (span : Span) (draft : RecordDraft) (entries : List RecordEntry) (line : Text) → IsDraft span draft entries
-    → record_entry_of draft.flight.first draft.flight.end (said_by draft) line ≡ record_entry_of (unsigned_abs span.first) (unsigned_abs span.end) (said_behind entries) line
-says_of_draft span draft entries line d =
-    ap (λ n. record_entry_of n draft.flight.end (said_by draft) line) d.first
-    ∙ ap (λ n. record_entry_of (unsigned_abs span.first) n (said_by draft) line) d.end
-    ∙ ap (λ (s : RecordsSaid). record_entry_of (unsigned_abs span.first) (unsigned_abs span.end) s line) d.said
+abbrev pub HasRoomSaid : RecordsSaid → Type 0
+HasRoomSaid said = HasRoom said.kind said.records
+
+-- the room behind a line that passes
+pub room_more : (first end : ℕ) (said : RecordsSaid) (line : Text) (e : RecordEntry) → record_entry_of first end said line ≡ Ok e → HasRoomSaid said → HasRoomSaid (said_next said e) × FitsRoom said.records e
+room_more first end said line e h room = go (entry_says first end said line e h)
+  where
+    go : ((is_nonblank line ≡ false) × (e ≡ entry.Blank)) ⊎ ((is_nonblank line ≡ true) × SaysLine first end said said.kind line e) → HasRoomSaid (said_next said e) × FitsRoom said.records e
+    go (inl b) = rw b.1 (room, tt)
+    go (inr s) = let n = room_next first end said said.kind line e s.1 room in (rw n.2 n.0, n.1)
+
+-- the draft after one more line
+pub draft_more : (first end : ℕ) (old new : RecordDraft) (entries : List RecordEntry) (line : Text) (e : RecordEntry) → IsDraft old entries
+    → record_entry_of first end (said_by old) line ≡ Ok e → IsAfter old e new → IsDraft new (entries ++ e ∷ [])
+draft_more first end old new entries line e d h a =
+    let more = room_more first end (said_by old) line e h d.room in
+    let said = a.said more.1 in
+    record {
+      said = said ∙ ap (λ (s : RecordsSaid). said_next s e) d.said ∙ sym (said_behind-append entries e);
+      room = subst HasRoomSaid (sym said) more.0;
+    }

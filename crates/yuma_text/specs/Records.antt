@@ -1,5 +1,5 @@
 -- What a line of a whole YUMA record says after those before it, or the first test that refuses it.
-use Rattle.std.specs.Prelude.{ℕ, pos, unsigned_abs, Bool, true, false, not, List, [], ◌∷◌, ◌++◌, Option, Some, None, Result, Ok, Err, codes, fold, nat_eq, if◌then◌else◌}
+use Rattle.std.specs.Prelude.{ℕ, ℤ, pos, unsigned_abs, Bool, true, false, not, List, [], ◌∷◌, ◌++◌, Option, Some, None, Result, Ok, Err, codes, fold, nat_eq, if◌then◌else◌}
 use Rattle.std.specs.List.{starts_with}
 use Rattle.raim_model.specs.declared.TextWhy.{TextWhy}
 use Rattle.raim_model.specs.declared.TextWhy.TheVariants as why
@@ -13,7 +13,7 @@ use Rattle.almanac_fields.specs.Times.{whole_ms_of, toa_of}
 use Rattle.text_lines.specs.Lines.{Text}
 use Rattle.text_lines.specs.Words.{words_of}
 use Rattle.text_lines.specs.Fields.{◌>>=◌, unless, labelled, whole_value_in}
-use Rattle.text_lines.specs.Reading.{Format, last_solid_line}
+use Rattle.text_lines.specs.Reading.{Format}
 use Rattle.dec_text.specs.DecimalFields.{only_word, decimal_between, any_decimal}
 use Rattle.yuma_text.specs.declared.line_kind.LineKind.{LineKind}
 use Rattle.yuma_text.specs.declared.line_kind.LineKind.TheVariants as kind
@@ -52,38 +52,38 @@ records_first = record { kind = kind.Title; current = blank_record; time = 0; re
 
 -- the current record with what a line says of it
 abbrev pub current_after : AlmRecord → RecordEntry → AlmRecord
-current_after current (entry.Id prn) = record current { prn = prn }
+current_after current (entry.Prn prn) = record current { prn = prn }
 current_after current (entry.Health health) = record current { health = health }
 current_after current (entry.Eccentricity d) = record current { e = d }
 current_after current (entry.Inclination d) = record current { incl = Rad d }
-current_after current (entry.Rate d) = record current { rate = Rad d }
+current_after current (entry.RateOfRightAscension d) = record current { rate = Rad d }
 current_after current (entry.SqrtA d) = record current { sqrt_a = d }
-current_after current (entry.Node d) = record current { omega0 = Rad d }
-current_after current (entry.Perigee d) = record current { perigee = Rad d }
-current_after current (entry.Anomaly d) = record current { m0 = Rad d }
-current_after current (entry.Week toa) = record current { toa_ms = toa }
+current_after current (entry.RightAscension d) = record current { omega0 = Rad d }
+current_after current (entry.ArgumentOfPerigee d) = record current { perigee = Rad d }
+current_after current (entry.MeanAnomaly d) = record current { m0 = Rad d }
+current_after current (entry.TimeOfApplicability toa) = record current { toa_ms = toa }
 current_after current entry.Blank = current
 current_after current entry.Title = current
-current_after current (entry.Time time) = current
+current_after current (entry.TimeInWeek time) = current
 current_after current entry.Clock = current
 
 abbrev pub time_after : ℕ → RecordEntry → ℕ
-time_after before (entry.Time time) = time
+time_after before (entry.TimeInWeek time) = time
 time_after before _ = before
 
 -- the week is the last line of a record
 abbrev pub records_after : List AlmRecord → AlmRecord → RecordEntry → List AlmRecord
-records_after records current (entry.Week toa) = records ++ current ∷ []
+records_after records current (entry.TimeOfApplicability toa) = records ++ current ∷ []
 records_after records current _ = records
 
-abbrev pub is_blank_line : RecordEntry → Bool
-is_blank_line entry.Blank = true
-is_blank_line _ = false
+abbrev pub is_blank : RecordEntry → Bool
+is_blank entry.Blank = true
+is_blank _ = false
 
 -- what is said after one more line
 abbrev pub said_next : RecordsSaid → RecordEntry → RecordsSaid
 said_next said e = record {
-  kind = if is_blank_line e then said.kind else kind_after said.kind;
+  kind = if is_blank e then said.kind else kind_after said.kind;
   current = current_after said.current e;
   time = time_after said.time e;
   records = records_after said.records (current_after said.current e) e;
@@ -100,11 +100,11 @@ records_in entries = (said_behind entries).records
 abbrev pub title_of : Text → Result RecordEntry TextWhy
 title_of word = unless (not (starts_with nat_eq word (codes "*"))) why.Label (Ok entry.Title)
 
-abbrev pub id_of : List AlmRecord → Text → Result RecordEntry TextWhy
-id_of records value = do
+abbrev pub prn_of : List AlmRecord → Text → Result RecordEntry TextWhy
+prn_of records value = do
   prn ← whole_value_in 1 32 value
   fresh ← fresh_prn_of records prn
-  Ok (entry.Id fresh)
+  Ok (entry.Prn fresh)
 
 abbrev pub health_of : Text → Result RecordEntry TextWhy
 health_of value = do
@@ -123,12 +123,16 @@ eccentricity_of value = do
   Ok (entry.Eccentricity d)
 
 -- the time of applicability in the week
-abbrev pub time_of : Text → Result RecordEntry TextWhy
-time_of value = do
+abbrev pub time_value : Text → Result ℕ TextWhy
+time_value value = do
   word ← only_word value
   d ← any_decimal word
-  time ← whole_ms_of d
-  Ok (entry.Time time)
+  whole_ms_of d
+
+abbrev pub time_of : Text → Result RecordEntry TextWhy
+time_of value = do
+  time ← time_value value
+  Ok (entry.TimeInWeek time)
 
 abbrev pub inclination_of : Text → Result RecordEntry TextWhy
 inclination_of value = do
@@ -138,7 +142,7 @@ inclination_of value = do
 abbrev pub rate_of : Text → Result RecordEntry TextWhy
 rate_of value = do
   d ← decimal_value (decimal true 1 6) (decimal false 1 6) value
-  Ok (entry.Rate d)
+  Ok (entry.RateOfRightAscension d)
 
 abbrev pub sqrt_a_of : Text → Result RecordEntry TextWhy
 sqrt_a_of value = do
@@ -149,48 +153,56 @@ sqrt_a_of value = do
 abbrev pub angle_of : Text → Result Dec TextWhy
 angle_of value = decimal_value (decimal true 10 0) (decimal false 10 0) value
 
-abbrev pub node_of : Text → Result RecordEntry TextWhy
-node_of value = do
+abbrev pub right_ascension_of : Text → Result RecordEntry TextWhy
+right_ascension_of value = do
   d ← angle_of value
-  Ok (entry.Node d)
+  Ok (entry.RightAscension d)
 
 abbrev pub perigee_of : Text → Result RecordEntry TextWhy
 perigee_of value = do
   d ← angle_of value
-  Ok (entry.Perigee d)
+  Ok (entry.ArgumentOfPerigee d)
 
-abbrev pub anomaly_of : Text → Result RecordEntry TextWhy
-anomaly_of value = do
+abbrev pub mean_anomaly_of : Text → Result RecordEntry TextWhy
+mean_anomaly_of value = do
   d ← angle_of value
-  Ok (entry.Anomaly d)
+  Ok (entry.MeanAnomaly d)
 
 -- a clock term may be any decimal, and is not used
+abbrev pub clock_value : Text → Result Dec TextWhy
+clock_value value = do
+  word ← only_word value
+  any_decimal word
+
 abbrev pub clock_of : Text → Result RecordEntry TextWhy
 clock_of value = do
-  word ← only_word value
-  d ← any_decimal word
+  d ← clock_value value
   Ok entry.Clock
 
 -- the week, with which the time of applicability is known
+abbrev pub week_value : (first end time : ℕ) → Text → Result ℤ TextWhy
+week_value first end time value = do
+  week ← whole_value_in 0 9999 value
+  toa_of first end time week
+
 abbrev pub week_of : (first end time : ℕ) → Text → Result RecordEntry TextWhy
 week_of first end time value = do
-  week ← whole_value_in 0 9999 value
-  toa ← toa_of first end time week
-  Ok (entry.Week toa)
+  toa ← week_value first end time value
+  Ok (entry.TimeOfApplicability toa)
 
 -- the value of a line of each kind
 abbrev pub value_entry_of : (first end : ℕ) → RecordsSaid → LineKind → Text → Result RecordEntry TextWhy
 value_entry_of first end said kind.Title value = Err why.Label
-value_entry_of first end said kind.Id value = id_of said.records value
+value_entry_of first end said kind.Prn value = prn_of said.records value
 value_entry_of first end said kind.Health value = health_of value
 value_entry_of first end said kind.Eccentricity value = eccentricity_of value
-value_entry_of first end said kind.TimeOfApplicability value = time_of value
-value_entry_of first end said kind.OrbitalInclination value = inclination_of value
+value_entry_of first end said kind.TimeInWeek value = time_of value
+value_entry_of first end said kind.Inclination value = inclination_of value
 value_entry_of first end said kind.RateOfRightAscension value = rate_of value
 value_entry_of first end said kind.SqrtA value = sqrt_a_of value
-value_entry_of first end said kind.RightAscension value = node_of value
+value_entry_of first end said kind.RightAscension value = right_ascension_of value
 value_entry_of first end said kind.ArgumentOfPerigee value = perigee_of value
-value_entry_of first end said kind.MeanAnomaly value = anomaly_of value
+value_entry_of first end said kind.MeanAnomaly value = mean_anomaly_of value
 value_entry_of first end said kind.Af0 value = clock_of value
 value_entry_of first end said kind.Af1 value = clock_of value
 value_entry_of first end said kind.Week value = week_of first end said.time value
@@ -218,10 +230,13 @@ end_at _ rs = Some why.Short
 abbrev pub records_end : RecordsSaid → Option TextWhy
 records_end said = end_at said.kind said.records
 
--- one to 32 whole records
-abbrev pub yuma_records : Span → Format RecordEntry TextWhy
-yuma_records span = record {
-  says = λ entries line. record_entry_of (unsigned_abs span.first) (unsigned_abs span.end) (said_behind entries) line;
+-- one to 32 whole records, for a flight from first to end
+abbrev pub yuma_lines : (first end : ℕ) → Format RecordEntry TextWhy
+yuma_lines first end = record {
+  says = λ entries line. record_entry_of first end (said_behind entries) line;
   at_end = λ entries. records_end (said_behind entries);
-  end_line = λ entries. last_solid_line is_blank_line entries;
+  is_blank = is_blank;
 }
+
+abbrev pub yuma_records : Span → Format RecordEntry TextWhy
+yuma_records span = yuma_lines (unsigned_abs span.first) (unsigned_abs span.end)

@@ -4,7 +4,7 @@ use Rattle.std.specs.List.{filter_map}
 use Rattle.raim_model.specs.declared.TextWhy.{TextWhy}
 use Rattle.raim_model.specs.declared.TextWhy.TheVariants.{Short}
 use Rattle.text_lines.specs.Lines.{Text}
-use Rattle.text_lines.specs.Reading.{Format, Accepts, Refuses, last_solid_line}
+use Rattle.text_lines.specs.Reading.{Format, Accepts, Refuses}
 use Rattle.yuma_text.specs.declared.line_kind.LineKind.{LineKind}
 use Rattle.yuma_text.specs.declared.line_kind.LineKind.TheVariants as kind
 use Rattle.yuma_text.specs.declared.entry.Entry.{Entry}
@@ -34,7 +34,7 @@ abbrev pub kind_behind : List Entry → LineKind
 kind_behind entries = fold next_kind kind.Title entries
 
 abbrev pub next_prn : ℕ → Entry → ℕ
-next_prn before (entry.Id prn) = prn
+next_prn before (entry.Prn prn) = prn
 next_prn before _ = before
 
 -- the PRN that was said last
@@ -56,7 +56,7 @@ yuma_healths = record {
   says = λ entries line. entry_of (said_in entries) line;
   -- the file ends without a record, or inside one
   at_end = λ entries. end_of (kind_behind entries) (healths_in entries);
-  end_line = λ entries. last_solid_line is_blank entries;
+  is_blank = is_blank;
 }
 
 -- the lines are accepted, and say these healths

@@ -19,30 +19,31 @@ use text_lines::{next_word, only_word, read_labelled, read_whole_value};
 pub(crate) enum RecordEntry {
     Blank,
     Title,
-    Id(u8),
+    Prn(u8),
     Health(u8),
     Eccentricity(Dec),
-    // the time of applicability, in milliseconds of the week
-    Time(u32),
+    // of the time of applicability, in milliseconds
+    TimeInWeek(u32),
     Inclination(Dec),
-    Rate(Dec),
+    RateOfRightAscension(Dec),
     SqrtA(Dec),
-    Node(Dec),
-    Perigee(Dec),
-    Anomaly(Dec),
+    RightAscension(Dec),
+    ArgumentOfPerigee(Dec),
+    MeanAnomaly(Dec),
     // a clock term, which is not used
     Clock,
-    // the time of applicability, in milliseconds since the GPS epoch
-    Week(i64),
+    // in milliseconds since the GPS epoch, which is known with the week
+    TimeOfApplicability(i64),
 }
 
-const fn decimal(neg: bool, digits: u64, places: u8) -> Dec
-    ensures { result ≡ record { neg = neg; digits = digits; places = places } }
-{
-    Dec {
-        neg,
-        digits,
-        places,
+impl RecordEntry {
+    pub(crate) fn is_blank(self) -> bool
+        ensures { result ≡ records.is_blank self }
+    {
+        match self {
+            RecordEntry::Blank => true,
+            _ => false,
+        }
     }
 }
 
@@ -55,12 +56,12 @@ fn title(word: &[u8]) -> Result<RecordEntry, TextWhy>
     Ok(RecordEntry::Title)
 }
 
-fn id(found: &[AlmRecord], value: &[u8]) -> Result<RecordEntry, TextWhy>
-    ensures { result ≡ records.id_of found.now value.now }
+fn prn(found: &[AlmRecord], value: &[u8]) -> Result<RecordEntry, TextWhy>
+    ensures { result ≡ records.prn_of found.now value.now }
 {
     let prn = read_whole_value(value, 1, 32)?;
     let prn = fresh_prn(found, prn as u8)?;
-    Ok(RecordEntry::Id(prn))
+    Ok(RecordEntry::Prn(prn))
 }
 
 fn health(value: &[u8]) -> Result<RecordEntry, TextWhy>
@@ -93,7 +94,7 @@ fn decimal_value(value: &[u8], low: Dec, high: Dec) -> Result<Dec, TextWhy>
 fn eccentricity(value: &[u8]) -> Result<RecordEntry, TextWhy>
     ensures { result ≡ records.eccentricity_of value.now }
 {
-    let eccentricity = decimal_value(value, decimal(false, 0, 0), decimal(false, 3125, 5))?;
+    let eccentricity = decimal_value(value, Dec::ZERO, Dec::new(false, 3125, 5))?;
     Ok(RecordEntry::Eccentricity(eccentricity))
 }
 
@@ -103,28 +104,28 @@ fn time(value: &[u8]) -> Result<RecordEntry, TextWhy>
     let word = word_of(value)?;
     let seconds = read_dec_value(word)?;
     let ms = whole_ms(seconds)?;
-    Ok(RecordEntry::Time(ms))
+    Ok(RecordEntry::TimeInWeek(ms))
 }
 
 fn inclination(value: &[u8]) -> Result<RecordEntry, TextWhy>
     ensures { result ≡ records.inclination_of value.now }
 {
-    let most = decimal(false, 31_415_926_535_898, 13);
-    let inclination = decimal_value(value, decimal(false, 0, 0), most)?;
+    let most = Dec::new(false, 31_415_926_535_898, 13);
+    let inclination = decimal_value(value, Dec::ZERO, most)?;
     Ok(RecordEntry::Inclination(inclination))
 }
 
 fn rate(value: &[u8]) -> Result<RecordEntry, TextWhy>
     ensures { result ≡ records.rate_of value.now }
 {
-    let rate = decimal_value(value, decimal(true, 1, 6), decimal(false, 1, 6))?;
-    Ok(RecordEntry::Rate(rate))
+    let rate = decimal_value(value, Dec::new(true, 1, 6), Dec::new(false, 1, 6))?;
+    Ok(RecordEntry::RateOfRightAscension(rate))
 }
 
 fn sqrt_a(value: &[u8]) -> Result<RecordEntry, TextWhy>
     ensures { result ≡ records.sqrt_a_of value.now }
 {
-    let sqrt_a = decimal_value(value, decimal(false, 4000, 0), decimal(false, 7000, 0))?;
+    let sqrt_a = decimal_value(value, Dec::whole(false, 4000), Dec::whole(false, 7000))?;
     Ok(RecordEntry::SqrtA(sqrt_a))
 }
 
@@ -132,28 +133,28 @@ fn sqrt_a(value: &[u8]) -> Result<RecordEntry, TextWhy>
 fn angle(value: &[u8]) -> Result<Dec, TextWhy>
     ensures { result ≡ records.angle_of value.now }
 {
-    decimal_value(value, decimal(true, 10, 0), decimal(false, 10, 0))
+    decimal_value(value, Dec::whole(true, 10), Dec::whole(false, 10))
 }
 
-fn node(value: &[u8]) -> Result<RecordEntry, TextWhy>
-    ensures { result ≡ records.node_of value.now }
+fn right_ascension(value: &[u8]) -> Result<RecordEntry, TextWhy>
+    ensures { result ≡ records.right_ascension_of value.now }
 {
-    let node = angle(value)?;
-    Ok(RecordEntry::Node(node))
+    let right_ascension = angle(value)?;
+    Ok(RecordEntry::RightAscension(right_ascension))
 }
 
 fn perigee(value: &[u8]) -> Result<RecordEntry, TextWhy>
     ensures { result ≡ records.perigee_of value.now }
 {
     let perigee = angle(value)?;
-    Ok(RecordEntry::Perigee(perigee))
+    Ok(RecordEntry::ArgumentOfPerigee(perigee))
 }
 
-fn anomaly(value: &[u8]) -> Result<RecordEntry, TextWhy>
-    ensures { result ≡ records.anomaly_of value.now }
+fn mean_anomaly(value: &[u8]) -> Result<RecordEntry, TextWhy>
+    ensures { result ≡ records.mean_anomaly_of value.now }
 {
-    let anomaly = angle(value)?;
-    Ok(RecordEntry::Anomaly(anomaly))
+    let mean_anomaly = angle(value)?;
+    Ok(RecordEntry::MeanAnomaly(mean_anomaly))
 }
 
 fn clock(value: &[u8]) -> Result<RecordEntry, TextWhy>
@@ -169,7 +170,7 @@ fn week(draft: &RecordDraft, value: &[u8]) -> Result<RecordEntry, TextWhy>
 {
     let week = read_whole_value(value, 0, 9999)?;
     let toa = time_of_applicability(draft.flight, week as u32, draft.time)?;
-    Ok(RecordEntry::Week(toa))
+    Ok(RecordEntry::TimeOfApplicability(toa))
 }
 
 // The value of a line of the kind that is expected.
@@ -178,16 +179,16 @@ fn value_entry(draft: &RecordDraft, value: &[u8]) -> Result<RecordEntry, TextWhy
 {
     match draft.kind {
         LineKind::Title => Err(TextWhy::Label),
-        LineKind::Id => id(draft.records.as_slice(), value),
+        LineKind::Prn => prn(draft.records.as_slice(), value),
         LineKind::Health => health(value),
         LineKind::Eccentricity => eccentricity(value),
-        LineKind::TimeOfApplicability => time(value),
-        LineKind::OrbitalInclination => inclination(value),
+        LineKind::TimeInWeek => time(value),
+        LineKind::Inclination => inclination(value),
         LineKind::RateOfRightAscension => rate(value),
         LineKind::SqrtA => sqrt_a(value),
-        LineKind::RightAscension => node(value),
+        LineKind::RightAscension => right_ascension(value),
         LineKind::ArgumentOfPerigee => perigee(value),
-        LineKind::MeanAnomaly => anomaly(value),
+        LineKind::MeanAnomaly => mean_anomaly(value),
         LineKind::Af0 | LineKind::Af1 => clock(value),
         LineKind::Week => week(draft, value),
     }
