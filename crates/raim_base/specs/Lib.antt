@@ -1,7 +1,12 @@
 pub mod Causes
+pub mod Sizes
 pub mod Desks
+pub mod Calls
 pub mod PerFile
 pub mod Paths
 pub mod MemDeskState
 pub mod MemDeskView
+pub mod SureDeskState
 pub mod MemSinkState
+pub mod Opened
+pub mod Streams

@@ -91,6 +91,13 @@ impl MemDesk {
         self.failed
     }
 
+    /// How many calls were made; the count stops at 2^64 - 1.
+    pub fn calls(&self) -> u64
+        ensures { result ≡ self.now.calls }
+    {
+        self.calls
+    }
+
     fn text(&self, text: Option<FileNo>) -> &[u8]
         ensures { result.now ≡ text_of self.now.texts text }
     {
@@ -105,7 +112,7 @@ impl MemDesk {
 }
 
 // Moves some of what stands from a place on to the front of the buffer.
-fn give(text: &[u8], at: usize, chunk: usize, buf: &mut [u8]) -> usize
+pub(crate) fn give(text: &[u8], at: usize, chunk: usize, buf: &mut [u8]) -> usize
     requires { 0 < chunk }
     ensures count { result ≤ length buf.new }
     ensures few { result ≤ chunk }
@@ -123,7 +130,7 @@ fn give(text: &[u8], at: usize, chunk: usize, buf: &mut [u8]) -> usize
 }
 
 // The text that a path names.
-fn named(path: &str) -> Option<FileNo>
+pub(crate) fn named(path: &str) -> Option<FileNo>
     ensures { result ≡ file_named path.now }
 {
     if path == "limits" {
@@ -142,7 +149,7 @@ fn named(path: &str) -> Option<FileNo>
 }
 
 impl Desk for MemDesk {
-    ghost use Rattle.std.specs.Prelude.{Some};
+    ghost use Rattle.std.specs.Prelude.{Some, None};
     ghost use Rattle.raim_base.specs.MemDeskState.{of_file, text_under, FailsNext, IsNextCall};
 
     ghost holds = { λ d p. Some (text_under d p) };
@@ -150,6 +157,8 @@ impl Desk for MemDesk {
     ghost left = { λ d f. Some (of_file d.left f) };
 
     ghost faults = { λ d f. of_file d.faults f };
+
+    ghost calls = { λ _. None };
 
     #[tactic(auto, using(crate::proofs::Places::left_in_file))]
     fn name(&mut self, file: FileNo, path: &str) -> Result<(), Failed>
