@@ -11,4 +11,4 @@ length-filter p (x ∷ xs) =
     elim (p x) as (λ t. length (cond t (x ∷ filter p xs) (filter p xs)) ≤ length (x ∷ xs)) [ true ↦ omega arith | false ↦ omega arith ]
 
 pub few_throughout : (asked : Asked) (healths : List Health) → length (usable healths) < 5 → IsFewThroughout asked healths
-few_throughout asked healths few t from to is_visible = let less = length-filter is_visible (usable healths) in omega arith
+few_throughout asked healths few is_visible t from to = let less = length-filter (is_visible t) (usable healths) in omega arith

@@ -4,22 +4,23 @@ use Rattle.raim_model.specs.declared.TextWhy.{TextWhy}
 use Rattle.raim_model.specs.declared.TextWhy.TheVariants.{Label, FileTooLong}
 use Rattle.raim_model.specs.Usable.{is_healthy}
 use Rattle.raim_model.specs.PointVerdict.{IsTooFew}
+use Rattle.raim_base.specs.Sizes.{longest_file}
 use Rattle.text_lines.specs.Lines.{Text, lines_of}
 use Rattle.yuma_text.specs.declared.Health.{Health}
 use Rattle.yuma_text.specs.Yuma.{SayHealths, SayNoHealths}
 use Rattle.raim_run.specs.Queries.{Asked}
 
--- a file may have 1,048,576 bytes
+-- the file has more bytes than a file may have
 abbrev pub IsTooLong : Text → Type 0
-IsTooLong bytes = 1048576 < length bytes
+IsTooLong bytes = longest_file < length bytes
 
 -- the file is accepted, and says these healths
 abbrev pub IsAccepted : Text → List Health → Type 0
-IsAccepted bytes healths = (length bytes ≤ 1048576) × SayHealths (lines_of bytes) healths
+IsAccepted bytes healths = (length bytes ≤ longest_file) × SayHealths (lines_of bytes) healths
 
 -- the file is no almanac
 abbrev pub IsNoAlmanac : Text → Type 0
-IsNoAlmanac bytes = (length bytes ≤ 1048576) × SayNoHealths (lines_of bytes)
+IsNoAlmanac bytes = (length bytes ≤ longest_file) × SayNoHealths (lines_of bytes)
 
 -- the file is refused, as a whole: at line 0
 abbrev pub IsRefused : Text → ℕ → TextWhy → Type 0
@@ -29,14 +30,11 @@ IsRefused bytes line why = (line ≡ 0) × (((why ≡ Label) × IsNoAlmanac byte
 abbrev pub usable : List Health → List Health
 usable healths = filter (λ h. is_healthy h.health) healths
 
--- the verdict at a millisecond is Unavailable for the reason Few, whichever of the usable satellites
--- are visible then
-abbrev pub IsFew : List Health → Type 0
-IsFew healths = (is_visible : Health → Bool) → IsTooFew (length (filter is_visible (usable healths)))
-
--- the verdict Few at each millisecond of the span
+-- the verdict at each millisecond of the span is Unavailable for the reason Few, whichever of the usable
+-- satellites are visible then
 abbrev pub IsFewThroughout : Asked → List Health → Type 0
-IsFewThroughout asked healths = (t : ℕ) → asked.start ≤ t → t < asked.end → IsFew healths
+IsFewThroughout asked healths = (is_visible : ℕ → Health → Bool) (t : ℕ) → asked.start ≤ t → t < asked.end
+    → IsTooFew (length (filter (is_visible t) (usable healths)))
 
 -- the almanac is accepted, and fewer than five of its satellites may be used: too few throughout
 pub record IsCertainlyFew (asked : Asked) (bytes : Text) : Type 0 where

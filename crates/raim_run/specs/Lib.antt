@@ -5,3 +5,5 @@ pub mod Answers
 pub mod ReadAnswers
 pub mod Causes
 pub mod Settled
+pub mod Calls
+pub mod Endings

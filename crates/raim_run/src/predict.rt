@@ -6,6 +6,8 @@ ghost use Rattle.raim_model.specs.declared.FileNo.{FileNo};
 ghost use Rattle.raim_model.specs.declared.TextWhy.{TextWhy};
 ghost use Rattle.raim_base.specs.Causes.{Rose, GrowsByFront};
 ghost use Rattle.raim_base.specs.Desks.{KeepsOthers};
+ghost use Rattle.raim_base.specs.Calls.{MakesCalls};
+ghost use Rattle.raim_run.specs.Calls.{AlmanacCalls, QueryCalls};
 ghost use Rattle.raim_run.specs.Queries.{asked_by};
 ghost use Rattle.raim_run.specs.Answers.{IsAccepted, IsRefused, IsCertainlyFew, IsNotBuilt, usable, line_of};
 ghost use Rattle.raim_run.specs.ReadAnswers.{ReadCause};
@@ -28,6 +30,7 @@ fn read_almanac<D: Desk>(alloc: Global, desk: &mut D, path: &str) -> Result<Vec<
     ensures holds { (p : List ℕ) → D.holds desk.new p ≡ D.holds desk.old p }
     ensures later { D.faults desk.old FileNo.Almanac ≤ D.faults desk.new FileNo.Almanac }
     ensures others { KeepsOthers (D.left desk.old) (D.left desk.new) (D.faults desk.old) (D.faults desk.new) FileNo.Almanac }
+    ensures calls { MakesCalls (D.calls desk.old) (D.calls desk.new) (AlmanacCalls path.now result) }
 {
     let file = FileNo::Almanac;
     let bytes = match read_whole(alloc, desk, file, path) {
@@ -80,6 +83,7 @@ pub(crate) fn predict<D: Desk, K: Sink>(
     ensures holds { (p : List ℕ) → D.holds desk.new p ≡ D.holds desk.old p }
     ensures later { D.faults desk.old FileNo.Almanac ≤ D.faults desk.new FileNo.Almanac }
     ensures others { KeepsOthers (D.left desk.old) (D.left desk.new) (D.faults desk.old) (D.faults desk.new) FileNo.Almanac }
+    ensures calls { MakesCalls (D.calls desk.old) (D.calls desk.new) (QueryCalls query.now.almanac.now result) }
     ensures out_later { K.faults out.old ≤ K.faults out.new }
 {
     let healths = match read_almanac(alloc, desk, query.almanac) {

@@ -2,11 +2,11 @@
 ghost use Rattle.std.specs.Prelude.{◌≡◌, ◌≤◌, ◌<◌};
 
 use super::*;
-use raim_base::{MemDesk, MemSink};
+use raim_base::{MemDesk, MemSink, StdSink, SureDesk, SureSink};
 use raim_model::{FileNo, TextWhy};
 use std::alloc::Global;
 use std::marker::Brand;
-use std::process::Abort;
+use std::process::{Abort, ExitCode};
 use std::sync::ledger::{Blank, Ledger};
 use std::test::Fail;
 use step_counter::Steps;
@@ -22,6 +22,7 @@ struct Left {
     out: Vec<u8>,
     note: Vec<u8>,
     failed: Option<FileNo>,
+    calls: u64,
 }
 
 // How many bytes a call moves at most, and which calls fail.
@@ -37,6 +38,14 @@ const SURE: Calls<'static> = Calls {
     fails: &[],
 };
 
+fn texts_of(alloc: Global, words: &[&str]) -> Result<Vec<String>, Fail> {
+    let mut texts = Vec::new(alloc);
+    for word in words {
+        texts.push(String::from_str(alloc, word)?)?;
+    }
+    Ok(texts)
+}
+
 fn run_counted<L: Ledger>(
     alloc: Global,
     words: &[&str],
@@ -50,10 +59,7 @@ fn run_counted<L: Ledger>(
     requires some { 1 ≤ blank.parts }
 {
     let mut steps: Steps<L> = Steps::new(blank);
-    let mut texts = Vec::new(alloc);
-    for word in words {
-        texts.push(String::from_str(alloc, word)?)?;
-    }
+    let texts = texts_of(alloc, words)?;
     let mut desk = MemDesk::new(
         Vec::new(alloc),
         almanac.to_vec(alloc)?,
@@ -74,6 +80,7 @@ fn run_counted<L: Ledger>(
         out: out.contents().to_vec(alloc)?,
         note: note.contents().to_vec(alloc)?,
         failed: desk.failed(),
+        calls: desk.calls(),
     })
 }
 
@@ -172,6 +179,7 @@ fn other_words_are_usage_and_name_nothing(rt: HostRuntime) -> Result<(), Fail> {
         let left = run_with(alloc, words, text.as_bytes(), reads, SURE)?;
         assert_eq!(rt; left.status, Status::Usage, "{words:?}");
         assert_eq!(rt; left.failed, None);
+        assert_eq!(rt; left.calls, 0);
         assert_eq!(rt; left.out.len(), 0);
         let note = "raim: usage: raim predict START END ALMANAC\n";
         assert_eq!(rt; left.note.as_slice(), note.as_bytes());
@@ -287,12 +295,15 @@ fn each_call_of_the_desk_may_fail(rt: HostRuntime) -> Result<(), Fail> {
         if left.status == Status::Done {
             // One call names the file, and one finds its end.
             let reads = text.len().div_ceil(64) as u64;
+            assert_eq!(rt; left.calls, reads + 2);
             assert_eq!(rt; call, reads + 3);
             return Ok(());
         }
         let file = FileNo::Almanac;
         assert_eq!(rt; left.status, Status::ReadFault { file });
         assert_eq!(rt; left.failed, Some(file));
+        // No call follows the one that failed.
+        assert_eq!(rt; left.calls, call);
         assert_eq!(rt; left.out.len(), 0);
         let note = "raim: almanac: read fault\n";
         assert_eq!(rt; left.note.as_slice(), note.as_bytes());
@@ -323,5 +334,90 @@ fn each_write_may_fail(rt: HostRuntime) -> Result<(), Fail> {
         assert_eq!(rt; left.note.as_slice(), note.as_bytes());
     }
     assert!(rt; false);
+    Ok(())
+}
+
+fn surely_counted<L: Ledger>(
+    alloc: Global,
+    words: &[&str],
+    almanac: &[u8],
+    blank: Blank,
+) -> Result<Status, Fail>
+    requires name { blank.name ≡ L.name }
+    requires parts { blank.parts ≡ L.parts }
+    requires some { 1 ≤ blank.parts }
+{
+    let mut steps: Steps<L> = Steps::new(blank);
+    let texts = texts_of(alloc, words)?;
+    let mut desk = SureDesk::new(
+        Vec::new(alloc),
+        almanac.to_vec(alloc)?,
+        Vec::new(alloc),
+        Vec::new(alloc),
+    );
+    let mut out = SureSink::new();
+    let mut note = SureSink::new();
+    Ok(run_surely(alloc, &texts, &mut desk, &mut out, &mut note, &mut steps))
+}
+
+#[test]
+fn where_nothing_fails_the_run_is_done(rt: HostRuntime) -> Result<(), Fail> {
+    let alloc = rt.alloc();
+    let text = almanac(alloc, 4, 4)?;
+    let status = surely_counted::<Brand>(alloc, &WORDS, text.as_bytes(), Blank::new(1))?;
+    assert_eq!(rt; status, Status::Done);
+    Ok(())
+}
+
+// What a process of these words over this almanac exits with, and what its streams hold.
+fn end_of(
+    alloc: Global,
+    words: &[&str],
+    almanac: &[u8],
+) -> Result<(ExitCode, Vec<u8>, Vec<u8>), Fail> {
+    let texts = texts_of(alloc, words)?;
+    let mut desk = SureDesk::new(
+        Vec::new(alloc),
+        almanac.to_vec(alloc)?,
+        Vec::new(alloc),
+        Vec::new(alloc),
+    );
+    let mut output: Vec<u8> = Vec::new(alloc);
+    let mut error: Vec<u8> = Vec::new(alloc);
+    let mut out: StdSink<&mut Vec<u8>> = StdSink::new(&mut output);
+    let mut note: StdSink<&mut Vec<u8>> = StdSink::new(&mut error);
+    let code = run_to_end(alloc, &texts, &mut desk, &mut out, &mut note);
+    Ok((code, output, error))
+}
+
+#[test]
+fn a_process_exits_with_its_status(rt: HostRuntime) -> Result<(), Fail> {
+    let alloc = rt.alloc();
+    let few = almanac(alloc, 4, 4)?;
+    let many = almanac(alloc, 6, 5)?;
+    let rows: [(&[&str], &[u8], u8, &str, &str); 4] = [
+        (&WORDS, few.as_bytes(), 0, LINE, ""),
+        (
+            &["raim"],
+            few.as_bytes(),
+            1,
+            "",
+            "raim: usage: raim predict START END ALMANAC\n",
+        ),
+        (&WORDS, b"no almanac\n", 2, "", NO_ALMANAC),
+        (
+            &WORDS,
+            many.as_bytes(),
+            8,
+            "",
+            "raim: not built: five healthy records\n",
+        ),
+    ];
+    for (words, text, number, output, error) in rows {
+        let (code, out, note) = end_of(alloc, words, text)?;
+        assert_eq!(rt; code, ExitCode::from(number));
+        assert_eq!(rt; out.as_slice(), output.as_bytes());
+        assert_eq!(rt; note.as_slice(), error.as_bytes());
+    }
     Ok(())
 }

@@ -6,6 +6,8 @@ ghost use Rattle.raim_model.specs.declared.FileNo.{FileNo};
 ghost use Rattle.raim_model.specs.declared.TextWhy.{TextWhy};
 ghost use Rattle.raim_base.specs.Causes.{Rose, GrowsByFront};
 ghost use Rattle.raim_base.specs.Desks.{KeepsOthers};
+ghost use Rattle.raim_base.specs.Calls.{MakesCalls};
+ghost use Rattle.raim_run.specs.Calls.{RunCalls};
 ghost use Rattle.raim_run.specs.Queries.{query_of};
 ghost use Rattle.raim_run.specs.Answers.{IsRefused, IsCertainlyFew, IsNotBuilt, report_of};
 ghost use Rattle.raim_run.specs.Causes.{QueryCause};
@@ -32,6 +34,7 @@ fn answer<D: Desk, K: Sink>(alloc: Global, words: &[String], desk: &mut D, out: 
     ensures holds { (p : List ℕ) → D.holds desk.new p ≡ D.holds desk.old p }
     ensures later { D.faults desk.old FileNo.Almanac ≤ D.faults desk.new FileNo.Almanac }
     ensures others { KeepsOthers (D.left desk.old) (D.left desk.new) (D.faults desk.old) (D.faults desk.new) FileNo.Almanac }
+    ensures calls { MakesCalls (D.calls desk.old) (D.calls desk.new) (RunCalls (query_of (map string_bytes words.now)) result) }
     ensures out_later { K.faults out.old ≤ K.faults out.new }
 {
     match read_query(words) {
@@ -55,7 +58,7 @@ pub fn run<D: Desk, K: Sink, L: Ledger>(
     note: &mut K,
     steps: &mut Steps<L>,
 ) -> Status
-    // The words have no match, and then no file is named.
+    // The words have no match, and then no count rose and no bytes left changed.
     ensures usage { (result ≡ Status.Usage) ↔ (query_of (map string_bytes words.now) ≡ None) }
     ensures unnamed { result ≡ Status.Usage →
         (f : FileNo) → (D.left desk.new f ≡ D.left desk.old f) × (D.faults desk.new f ≡ D.faults desk.old f) }
@@ -92,6 +95,10 @@ pub fn run<D: Desk, K: Sink, L: Ledger>(
     ensures note { GrowsByFront (K.contents note.old) (K.contents note.new) (note_of result) }
     ensures note_whole { (Rose (K.faults note.old) (K.faults note.new) → ⊥) →
         Appends (K.contents note.old) (K.contents note.new) (note_of result) }
+
+    // The almanac is named once and read to its end, and no call is made after one that failed; without a match
+    // there is no call.
+    ensures calls { MakesCalls (D.calls desk.old) (D.calls desk.new) (RunCalls (query_of (map string_bytes words.now)) result) }
 
     ensures holds { (p : List ℕ) → D.holds desk.new p ≡ D.holds desk.old p }
     ensures others { KeepsOthers (D.left desk.old) (D.left desk.new) (D.faults desk.old) (D.faults desk.new) FileNo.Almanac }
