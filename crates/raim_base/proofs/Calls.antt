@@ -1,5 +1,5 @@
 -- Calls that are made in turn, and reads that go on.
-use Rattle.std.proofs.Common.{◌≡◌, ◌++◌, ◌∷◌, ◌∙◌, ◌<◌, List, [], ℕ, Option, Some, None, true, refl, sym, ap, subst, append_assoc, append-nil, map}
+use Rattle.std.proofs.Common.{◌≡◌, ◌++◌, ◌∷◌, ◌∙◌, ◌<◌, List, [], ℕ, Option, Some, None, true, refl, sym, ap, subst, append_assoc, append-nil}
 use Rattle.raim_model.specs.declared.FileNo.{FileNo}
 use Rattle.raim_base.specs.Calls.{Call, naming, reading, Makes, MakesCalls, AreAboveZero, ReadsThen, ReadsAFront, readings}
 

@@ -1,6 +1,6 @@
-use Rattle.std.proofs.Common.{rules, ◌≡◌, ℕ, List, [], ◌∷◌, Option, Some, None, subst, arith, inr}
+use Rattle.std.proofs.Common.{rules, ◌≡◌, ℕ, [], ◌∷◌, Some, None, subst, arith, inr}
 use Rattle.std.proofs.lemmas.Grind.{common_steps}
-use Rattle.raim_base.specs.Calls.{Call, Makes, reading}
+use Rattle.raim_base.specs.Calls.{Makes, reading}
 use Rattle.raim_base.proofs.Calls.{reads_more, reads_last}
 use Rattle.raim_base.proofs.desk.read_whole.Goals as goal
 
