@@ -3,4 +3,4 @@ pub mod Rounded
 pub mod Decimals
 pub mod Motions
 pub mod KeptElements
-pub mod Records
+pub mod Canonicals

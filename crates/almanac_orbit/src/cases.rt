@@ -2,7 +2,7 @@
 // of weeks, 90 days either way, circles and the greatest eccentricity, drifts either way, times of applicability before the
 // epoch, and pieces that are wide.
 
-ghost use Rattle.std.specs.Prelude.{IfSome};
+ghost use Rattle.std.specs.Prelude.{IfSome, pos, neg_ℤ, ◌^◌, ◌≤ℤ◌};
 ghost use Rattle.raim_model.specs.AlmanacRanges.{IsAlmRecord};
 
 use crate::orbit::{position, prepare};
@@ -11,10 +11,20 @@ use fix_interval::Iv;
 use raim_model::AlmRecord;
 
 /// The milliseconds of 90 days.
-const NINETY_DAYS: i128 = 7_776_000_000;
+const NINETY_DAYS: i64 = 7_776_000_000;
+
+/// A satellite's place.
+#[derive(Clone, Copy)]
+pub(crate) struct Place {
+    pub(crate) x: Iv,
+    pub(crate) y: Iv,
+    pub(crate) z: Iv,
+}
 
 fn record_of(name: &str) -> Option<AlmRecord>
-    ensures { IfSome result (λ rec. IsAlmRecord rec) }
+    ensures accepted { IfSome result (λ rec. IsAlmRecord rec) }
+    ensures early { IfSome result (λ rec. neg_ℤ (pos (2 ^ 60)) ≤ℤ rec.toa_ms) }
+    ensures late { IfSome result (λ rec. rec.toa_ms ≤ℤ pos (2 ^ 60)) }
 {
     match name {
         "circle" => Some(records::circle()),
@@ -30,36 +40,45 @@ fn record_of(name: &str) -> Option<AlmRecord>
 }
 
 /// The satellite's place, where it may be asked.
-pub(crate) fn place_of(rec: &AlmRecord, first: i64, last: i64) -> Option<[Iv; 3]>
-    requires { IsAlmRecord rec.now }
+pub(crate) fn place_of(rec: &AlmRecord, first: i64, last: i64) -> Option<Place>
+    requires accepted { IsAlmRecord rec.now }
+    requires early { neg_ℤ (pos (2 ^ 60)) ≤ℤ rec.now.toa_ms }
+    requires late { rec.now.toa_ms ≤ℤ pos (2 ^ 60) }
 {
-    let toa = rec.toa_ms as i128;
-    let early = toa - NINETY_DAYS;
-    let late = toa + NINETY_DAYS;
-    if first <= last && early <= first as i128 && last as i128 <= late {
-        Some(position(&prepare(rec), first, last))
+    let toa = rec.toa_ms;
+    if toa - NINETY_DAYS <= first && first <= last && last <= toa + NINETY_DAYS {
+        let place = position(&prepare(rec), first, last);
+        Some(Place {
+            x: place[0],
+            y: place[1],
+            z: place[2],
+        })
     } else {
         None
     }
 }
 
-fn ends(place: [Iv; 3]) -> [i128; 6] {
-    let [x, y, z] = place;
-    [x.lo, x.hi, y.lo, y.hi, z.lo, z.hi]
+/// An interval that two words say.
+fn interval(lo: &str, hi: &str) -> Option<Iv> {
+    let lo = lo.parse::<i128>().ok()?;
+    let hi = hi.parse::<i128>().ok()?;
+    if lo <= hi { Some(Iv { lo, hi }) } else { None }
 }
 
-/// A line of the table: what `position` answers, and the ends that the line says.
-fn answers_of(line: &str) -> Option<([i128; 6], [i128; 6])> {
+/// A line of the table: what `position` answers, and what the line says.
+fn answers_of(line: &str) -> Option<(Place, Place)> {
     let mut words = line.split_whitespace();
     let rec = record_of(words.next()?)?;
     let first = words.next()?.parse::<i64>().ok()?;
     let last = words.next()?.parse::<i64>().ok()?;
-    let place = place_of(&rec, first, last)?;
-    let mut said = [0; 6];
-    for end in said.iter_mut() {
-        *end = words.next()?.parse::<i128>().ok()?;
-    }
-    Some((ends(place), said))
+    let x = interval(words.next()?, words.next()?)?;
+    let y = interval(words.next()?, words.next()?)?;
+    let z = interval(words.next()?, words.next()?)?;
+    Some((place_of(&rec, first, last)?, Place { x, y, z }))
+}
+
+fn ends(a: Iv) -> (i128, i128) {
+    (a.lo, a.hi)
 }
 
 #[test]
@@ -68,7 +87,11 @@ fn positions_are_as_the_table_says(rt: HostRuntime) {
     for line in TABLE.lines() {
         lines = lines.wrapping_add(1);
         match answers_of(line) {
-            Some((found, said)) => assert_eq!(rt; found, said, "{line}"),
+            Some((found, said)) => {
+                assert_eq!(rt; ends(found.x), ends(said.x), "{line}");
+                assert_eq!(rt; ends(found.y), ends(said.y), "{line}");
+                assert_eq!(rt; ends(found.z), ends(said.z), "{line}");
+            }
             None => panic!(rt; "{line}"),
         }
     }

@@ -1,12 +1,15 @@
 // Records of almanacs for the tests: each is accepted.
 
+ghost use Rattle.std.specs.Prelude.{pos, neg_ℤ, ◌^◌, ◌≤ℤ◌};
 ghost use Rattle.raim_model.specs.AlmanacRanges.{IsAlmRecord};
 
 use raim_model::{AlmRecord, Angle, Dec};
 
 /// A circle in the plane of 90 degrees, with its satellite at the node, from a time of applicability at a week's begin.
 pub(crate) fn circle() -> AlmRecord
-    ensures { IsAlmRecord result }
+    ensures accepted { IsAlmRecord result }
+    ensures early { neg_ℤ (pos (2 ^ 60)) ≤ℤ result.toa_ms }
+    ensures late { result.toa_ms ≤ℤ pos (2 ^ 60) }
 {
     AlmRecord {
         prn: 5,
@@ -52,7 +55,9 @@ pub(crate) fn circle() -> AlmRecord
 
 /// A record as a YUMA file has it, with angles in radians.
 pub(crate) fn yuma() -> AlmRecord
-    ensures { IsAlmRecord result }
+    ensures accepted { IsAlmRecord result }
+    ensures early { neg_ℤ (pos (2 ^ 60)) ≤ℤ result.toa_ms }
+    ensures late { result.toa_ms ≤ℤ pos (2 ^ 60) }
 {
     AlmRecord {
         prn: 1,
@@ -98,7 +103,9 @@ pub(crate) fn yuma() -> AlmRecord
 
 /// A record as a SEM file has it, with angles in semicircles.
 pub(crate) fn sem() -> AlmRecord
-    ensures { IsAlmRecord result }
+    ensures accepted { IsAlmRecord result }
+    ensures early { neg_ℤ (pos (2 ^ 60)) ≤ℤ result.toa_ms }
+    ensures late { result.toa_ms ≤ℤ pos (2 ^ 60) }
 {
     AlmRecord {
         prn: 24,
@@ -144,7 +151,9 @@ pub(crate) fn sem() -> AlmRecord
 
 /// A record at the ends of its ranges, in radians.
 pub(crate) fn extreme() -> AlmRecord
-    ensures { IsAlmRecord result }
+    ensures accepted { IsAlmRecord result }
+    ensures early { neg_ℤ (pos (2 ^ 60)) ≤ℤ result.toa_ms }
+    ensures late { result.toa_ms ≤ℤ pos (2 ^ 60) }
 {
     AlmRecord {
         prn: 32,
@@ -190,7 +199,9 @@ pub(crate) fn extreme() -> AlmRecord
 
 /// A record at the ends of its ranges, in semicircles, from a millisecond before the epoch.
 pub(crate) fn fast() -> AlmRecord
-    ensures { IsAlmRecord result }
+    ensures accepted { IsAlmRecord result }
+    ensures early { neg_ℤ (pos (2 ^ 60)) ≤ℤ result.toa_ms }
+    ensures late { result.toa_ms ≤ℤ pos (2 ^ 60) }
 {
     AlmRecord {
         prn: 31,
@@ -236,7 +247,9 @@ pub(crate) fn fast() -> AlmRecord
 
 /// A record in radians, from the last millisecond of a week.
 pub(crate) fn late() -> AlmRecord
-    ensures { IsAlmRecord result }
+    ensures accepted { IsAlmRecord result }
+    ensures early { neg_ℤ (pos (2 ^ 60)) ≤ℤ result.toa_ms }
+    ensures late { result.toa_ms ≤ℤ pos (2 ^ 60) }
 {
     AlmRecord {
         prn: 7,
@@ -282,7 +295,9 @@ pub(crate) fn late() -> AlmRecord
 
 /// A satellite of a published almanac in radians.
 pub(crate) fn published_yuma() -> AlmRecord
-    ensures { IsAlmRecord result }
+    ensures accepted { IsAlmRecord result }
+    ensures early { neg_ℤ (pos (2 ^ 60)) ≤ℤ result.toa_ms }
+    ensures late { result.toa_ms ≤ℤ pos (2 ^ 60) }
 {
     AlmRecord {
         prn: 2,
@@ -328,7 +343,9 @@ pub(crate) fn published_yuma() -> AlmRecord
 
 /// The same satellite of the same almanac in semicircles.
 pub(crate) fn published_sem() -> AlmRecord
-    ensures { IsAlmRecord result }
+    ensures accepted { IsAlmRecord result }
+    ensures early { neg_ℤ (pos (2 ^ 60)) ≤ℤ result.toa_ms }
+    ensures late { result.toa_ms ≤ℤ pos (2 ^ 60) }
 {
     AlmRecord {
         prn: 2,

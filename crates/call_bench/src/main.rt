@@ -14,10 +14,10 @@ use halvings::tally_of;
 use kind::Kind;
 use std::alloc::Global;
 use std::io::Print;
-use std::io;
-use std::env;
+use std::{env, io};
 
-const USAGE: &str = "call_bench mul|sqr|div|sqrt|decimal|sine|kepler|position|island|alternating N ..";
+const USAGE: &str =
+    "call_bench mul|sqr|div|sqrt|decimal|sine|kepler|position|island|alternating N ..";
 
 /// Makes `n` calls of a kind, and prints its line.
 fn print_line(rt: &impl Print, alloc: Global, kind: Kind, n: u32) -> io::Result<()> {
@@ -31,7 +31,10 @@ fn print_line(rt: &impl Print, alloc: Global, kind: Kind, n: u32) -> io::Result<
         Kind::Halving(range) => match tally_of(alloc, range, n) {
             Ok(tally) => println!(rt;
                 "{} {} runs {} judgements {}",
-                kind.name(), n, tally.runs, tally.judgements
+                kind.name(),
+                n,
+                tally.runs,
+                tally.judgements
             ),
             Err(_) => println!(rt; "no answer"),
         },

@@ -2,12 +2,12 @@ use Rattle.std.proofs.Common.{inl, true, false}
 use lib.Dec.{lit≤}
 use Rattle.fractions.specs.Pair.{pair_ratio, pair_is_at_most}
 use Rattle.fractions.specs.Fraction.{ratio, is_at_most}
-use Rattle.almanac_orbit.proofs.Records.{canonical_of}
+use Rattle.almanac_orbit.proofs.Canonicals.{canonical_of}
 use Rattle.almanac_orbit.proofs.records.published_yuma.Goals as goal
 
-pub returns : goal.returns
+pub returns-clause-accepted : goal.returns-clause-accepted
 unfolding ratio pair_ratio is_at_most pair_is_at_most
-returns c = record {
+returns-clause-accepted c = record {
   prn = (lit≤ tt, lit≤ tt);
   health = lit≤ tt;
   eccentricity = record { canonical = canonical_of false 9608650696 12 (lit≤ tt) (lit≤ tt) (lit≤ tt) (lit≤ tt); at_least = record { le = tt }; at_most = record { le = tt } };

@@ -2,7 +2,7 @@ use Rattle.std.proofs.Common.{inr, true, false}
 use lib.Dec.{lit≤}
 use Rattle.fractions.specs.Pair.{pair_ratio, pair_is_at_most}
 use Rattle.fractions.specs.Fraction.{ratio, is_at_most}
-use Rattle.almanac_orbit.proofs.Records.{canonical_of}
+use Rattle.almanac_orbit.proofs.Canonicals.{canonical_of}
 use Rattle.call_bench.proofs.position_calls.record_of.Goals as goal
 
 pub returns-clause-accepted : goal.returns-clause-accepted
