@@ -1,17 +1,12 @@
 -- Magnitudes of intervals within ends, and of what the code finds on its way.
-use Rattle.std.specs.Prelude.{◌≡◌, ℕ, ℤ, pos, neg_ℤ, ◌*◌, ◌^◌, ◌≤◌, ◌≤ℤ◌, refl}
-use Rattle.std.proofs.Common.{arith, sym, subst}
-use Rattle.std.proofs.lemmas.Int.{ints}
-use Rattle.std.proofs.Math.Nat.{mul-le-mul}
-use Rattle.fix_interval.specs.declared.Iv.{Iv}
+use Rattle.std.specs.Prelude.{ℤ, pos, neg_ℤ, ◌^◌, ◌≤ℤ◌, refl}
 use Rattle.fix_interval.specs.Ends.{Ends, IsInside}
-use Rattle.fix_interval.specs.Intervals.{ends, mag_of, IsWithin}
 use Rattle.fix_interval.specs.Products.{mul_wide_of, narrow76_of, scale_int_of}
 use Rattle.fix_interval.specs.Sums.{add_of, sub_of}
 use Rattle.fix_interval.proofs.EndProducts.{narrow76_isotone, scale_int_isotone}
 use Rattle.fix_interval.proofs.EndSums.{add_isotone, sub_isotone}
 use Rattle.fix_interval.proofs.EndInsides.{inside_trans}
-use Rattle.fix_interval.specs.Ranges.{from_to, around}
+use Rattle.fix_interval.specs.Ranges.{around}
 
 -- ---- an angle that moves
 scale_widest : IsInside (scale_int_of (around (2 ^ 52)) (neg_ℤ (pos 7776000000)) (pos 7776000000)) (around (2 ^ 85))

@@ -1,27 +1,22 @@
 -- Quotients by a constant, and products of what is not negative by so many places fewer: what they hold, that they are isotone, and
 -- how wide they are.
-use Rattle.std.specs.Prelude.{◌≡◌, ℕ, ℤ, pos, ◌+◌, ◌*◌, ◌^◌, ◌<◌, ◌≤◌, ◌+ℤ◌, ◌-ℤ◌, ◌*ℤ◌, ◌≤ℤ◌, ◌≢◌, [], ◌∷◌}
-use Rattle.std.proofs.Common.{arith, ap, sym, ◌∙◌, subst, mul-pos}
+use Rattle.std.specs.Prelude.{◌≡◌, ℕ, ℤ, pos, ◌+◌, ◌*◌, ◌^◌, ◌≤◌, ◌+ℤ◌, ◌-ℤ◌, ◌*ℤ◌, ◌≤ℤ◌, ◌≢◌, [], ◌∷◌}
+use Rattle.std.proofs.Common.{arith, ap, sym, ◌∙◌}
 use Rattle.std.proofs.lemmas.Int.{ints}
 use Rattle.std.proofs.lemmas.Nat.{pow_pos, pow-add}
-use lib.Dec.{lit≤}
-use Rattle.whole_numbers.specs.Rounding.{floor_of, ceil_of}
-use Rattle.whole_numbers.proofs.Divisions.{floor_of_mono, ceil_of_mono, floor_of_high, ceil_of_low, multiple_below}
-use Rattle.whole_numbers.proofs.Quote.{quote as quote_whole, identity as identity_whole}
-use Rattle.whole_numbers.proofs.Integers.{not_negative_natural, ≤ℤ_trans}
+use Rattle.whole_numbers.proofs.Divisions.{floor_of_mono, ceil_of_mono}
+use Rattle.whole_numbers.proofs.Integers.{≤ℤ_trans}
 use Rattle.whole_numbers.proofs.Products.{*ℤ_mono_left, *ℤ_mono_right}
-use Rattle.fractions.specs.Fraction.{Fraction, ratio, zeroᶠ, oneᶠ, ◌*ᶠ◌}
+use Rattle.fractions.specs.Fraction.{Fraction, zeroᶠ, oneᶠ, ◌*ᶠ◌}
 use Rattle.fractions.specs.Inverse.{inverse, ◌/ᶠ◌}
 use Rattle.fractions.proofs.Floors.{ratio-floor_of, ratio-ceil_of}
-use Rattle.fractions.proofs.Laws.{≤ᶠ_trans, *ᶠ_mono, *ᶠ_comm, *ᶠ_assoc, *ᶠ_one}
+use Rattle.fractions.proofs.Laws.{≤ᶠ_trans, *ᶠ_mono, *ᶠ_one}
 use Rattle.fractions.proofs.Quote.{quote, identity}
-use Rattle.fractions.proofs.Ratios.{ratio-mul, ratio-same, not_negative_constant}
-use Rattle.fractions.proofs.StrictOrder.{*ᶠ_cancel, *ᶠ-inverse_cancel, positive_ratio}
+use Rattle.fractions.proofs.Ratios.{not_negative_constant}
+use Rattle.fractions.proofs.StrictOrder.{*ᶠ-inverse_cancel}
 use Rattle.fix_interval.specs.Ends.{Ends, IsInside, IsNarrow}
 use Rattle.fix_interval.specs.Lies.{Lies}
 use Rattle.fix_interval.proofs.EndProducts.{rounded_ordered, corner}
-use Rattle.fix_interval.specs.Quotients.{div_int_of, scale_of}
-use Rattle.fix_interval.proofs.EndScales.{scale_encloses}
 use Rattle.fix_interval.proofs.EndWidths.{products_apart, rounded_width}
 use Rattle.fix_interval.specs.Ranges.{around}
 use Rattle.orbit_laws.specs.Elements.{product_of}
