@@ -42,7 +42,7 @@ fn product(a: Iv, b: Iv, bits: u32) -> Iv
     }
 }
 
-/// The greater half axis in megametres, of its root in units of 2^-56.
+/// The semi-major axis in megametres, of its root in units of 2^-56.
 pub(crate) fn semi_major_axis(root: Iv) -> Iv
     requires { IsInside (ends root) root_ends }
     ensures { ends result ≡ semi_major_axis_of (ends root) }
@@ -95,7 +95,7 @@ pub(crate) fn in_turns(eccentricity: Iv) -> Iv
     scale(eccentricity, PARTS, TURN_PARTS)
 }
 
-/// The lesser half axis over the greater.
+/// The semi-minor axis over the greater.
 fn axis_ratio(eccentricity: Iv) -> Iv
     requires { IsInside (ends eccentricity) eccentricity_ends }
     ensures { ends result ≡ axis_ratio_of (ends eccentricity) }
@@ -103,7 +103,7 @@ fn axis_ratio(eccentricity: Iv) -> Iv
     sqrt(sub(ONE_76, sqr_wide(eccentricity)))
 }
 
-/// The lesser half axis in megametres.
+/// The semi-minor axis in megametres.
 pub(crate) fn semi_minor_axis(semi_major_axis: Iv, eccentricity: Iv) -> Iv
     requires axis { IsInside (ends semi_major_axis) axis_ends }
     requires ratio { IsInside (ends eccentricity) eccentricity_ends }

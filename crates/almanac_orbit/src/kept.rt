@@ -4,14 +4,14 @@ use fix_interval::Iv;
 /// The elements of a record, in units of 2^-38 where no other is named.
 #[derive(Clone, Copy)]
 pub(crate) struct Kept {
-    /// The greater half axis in megametres.
+    /// The semi-major axis in megametres.
     pub(crate) semi_major_axis: Iv,
     /// The mean motion in turns per millisecond, in units of 2^-76.
     pub(crate) motion: Iv,
     pub(crate) eccentricity: Iv,
     /// The same over the radians of a turn.
     pub(crate) in_turns: Iv,
-    /// The lesser half axis in megametres.
+    /// The semi-minor axis in megametres.
     pub(crate) semi_minor_axis: Iv,
     /// The mean anomaly at the time of applicability, in turns.
     pub(crate) mean_anomaly: Iv,

@@ -148,7 +148,7 @@ in_turns_encloses : (e : Ends) (x : Fraction) → Lies e 38 x → Lies (in_turns
 unfolding in_turns_of
 in_turns_encloses e x l = subst (Lies (scale_of e (10 ^ 13) turn_parts) 38) (sym (over_tau-is x)) (scale_encloses (10 ^ 13) turn_parts refl (lit≤ tt) 38 x l)
 
--- ---- the lesser half axis over the greater
+-- ---- the semi-minor axis over the semi-major one
 square_of_eccentricity_widest : IsInside (sqr_wide_of eccentricity_ends) (from_to 0 (2 ^ 66))
 unfolding sqr_wide_of
 square_of_eccentricity_widest = record { low = record { le = tt }; ordered = record { le = tt }; high = record { le = tt } }

@@ -18,11 +18,11 @@ use Rattle.orbit_laws.specs.Angles.{turns_of, rate_of, earth_rate}
 unfoldable pub product_of : (k : ℕ) → Ends → Ends → Ends
 product_of k a b = record { lo = floor_of (a.lo *ℤ b.lo) (2 ^ k); hi = ceil_of (a.hi *ℤ b.hi) (2 ^ k) }
 
--- the square root of the greater half axis, in roots of megametres, at scale 56
+-- the square root of the semi-major axis, in roots of megametres, at scale 56
 unfoldable pub semi_major_root_of : AlmRecord → Ends
 semi_major_root_of rec = dec56_milli_of rec.sqrt_a
 
--- the greater half axis in megametres, of its root s
+-- the semi-major axis in megametres, of its root s
 unfoldable pub semi_major_axis_of : Ends → Ends
 semi_major_axis_of s = product_of 74 s s
 
@@ -35,7 +35,7 @@ cube_of s = product_of 56 (product_of 56 s s) s
 abbrev pub motion_units : ℕ
 motion_units = 17300094636726601251629613198629222
 
--- the mean motion in turns per millisecond at scale 76, for the power of three halves c of the greater half axis: a unit
+-- the mean motion in turns per millisecond at scale 76, for the power of three halves c of the semi-major axis: a unit
 -- outward, for the roots that the model admits
 unfoldable pub motion_of : Ends → Ends
 motion_of c = record {
@@ -47,7 +47,7 @@ motion_of c = record {
 unfoldable pub in_turns_of : Ends → Ends
 in_turns_of e = scale_of e (10 ^ 13) turn_parts
 
--- the lesser half axis over the greater, of the eccentricity e
+-- the semi-minor axis over the semi-major one, of the eccentricity e
 unfoldable pub axis_ratio_of : Ends → Ends
 axis_ratio_of e = sqrt_of (sub_of (point (pos (2 ^ 76))) (sqr_wide_of e))
 
@@ -57,14 +57,14 @@ week_time rec = int_rem_euclid rec.toa_ms (pos week_ms)
 
 -- scale 38 where no other is named
 pub record Elements : Type 0 where
-  -- the greater half axis in megametres
+  -- the semi-major axis in megametres
   pub semi_major_axis : Ends
   -- the mean motion in turns per millisecond, at scale 76
   pub motion : Ends
   pub eccentricity : Ends
   -- the same over the radians of a turn
   pub in_turns : Ends
-  -- the lesser half axis in megametres
+  -- the semi-minor axis in megametres
   pub semi_minor_axis : Ends
   -- the mean anomaly at the time of applicability, the node at the week's begin, the perigee and the inclination, in turns
   pub mean_anomaly : Ends

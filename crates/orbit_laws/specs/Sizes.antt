@@ -19,6 +19,6 @@ axis_ends = from_to (16 * 2 ^ 38) (49 * 2 ^ 38)
 abbrev pub eccentricity_ends : Ends
 eccentricity_ends = from_to 0 (2 ^ 33)
 
--- the lesser half axis over the greater
+-- the semi-minor axis over the semi-major one
 abbrev pub ratio_ends : Ends
 ratio_ends = from_to 0 (2 ^ 38 + 2)
