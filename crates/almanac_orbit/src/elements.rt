@@ -95,7 +95,7 @@ pub(crate) fn in_turns(eccentricity: Iv) -> Iv
     scale(eccentricity, PARTS, TURN_PARTS)
 }
 
-/// The semi-minor axis over the greater.
+/// The semi-minor axis over the semi-major one.
 fn axis_ratio(eccentricity: Iv) -> Iv
     requires { IsInside (ends eccentricity) eccentricity_ends }
     ensures { ends result ≡ axis_ratio_of (ends eccentricity) }
