@@ -121,7 +121,7 @@ between c d h x y cx xc dy yd =
     (≤ℤ_trans _ (greatest_corner c.lo c.hi d.lo d.hi) _ (greatest_corner-greatest c.lo c.hi d.lo d.hi x y cx xc dy yd) range.1)
 
 -- where wider ends have a product, so have those inside
-checked_isotone : (a b c d : Ends) → IsInside a c → IsInside b d → IsSome (checked_mul_of c d) → checked_mul_of a b ≡ Some (mul_wide_of a b)
+pub checked_isotone : (a b c d : Ends) → IsInside a c → IsInside b d → IsSome (checked_mul_of c d) → checked_mul_of a b ≡ Some (mul_wide_of a b)
 checked_isotone a b c d p q h =
     let al = ≤ℤ_trans a.lo a.hi c.hi p.ordered p.high in
     let ah = ≤ℤ_trans c.lo a.lo a.hi p.low p.ordered in

@@ -1,11 +1,10 @@
 -- The cuts of a case are cuts for halving, and a piece inside one root piece lies between two neighbours of them.
-use Rattle.std.specs.Prelude.{◌≡◌, ◌≢◌, ℕ, zero, suc, ◌-◌, ◌<◌, ◌≤◌, ℤ, pos, neg_ℤ, ◌+ℤ◌, ◌-ℤ◌, ◌≤ℤ◌, ◌<ℤ◌, ◌^◌, ◌↔◌, ◌⊎◌, List, [], ◌∷◌, ◌++◌, map, length, slice_index_or, Contains, All, AllPairs, refl}
+use Rattle.std.specs.Prelude.{◌≡◌, ℕ, zero, suc, ◌-◌, ◌<◌, ◌≤◌, ℤ, pos, ◌-ℤ◌, ◌≤ℤ◌, ◌<ℤ◌, ◌⊎◌, List, [], ◌∷◌, ◌++◌, length, slice_index_or, Contains, AllPairs, refl}
 use Rattle.std.proofs.Common.{arith, ap, sym, ◌∙◌, subst, inl, inr}
 use Rattle.std.proofs.lemmas.Int.{ints, by_lt_z}
-use Rattle.std.proofs.lemmas.List.Elements.{Contains-append_cases}
 use Rattle.raim_model.specs.declared.waypoint.Waypoint.{Waypoint}
 use Rattle.raim_model.specs.Constants.{latest_ms}
-use Rattle.raim_model.specs.Ranges.{IsTime, IsWaypoint, IsRoute}
+use Rattle.raim_model.specs.Ranges.{IsWaypoint, IsRoute}
 use Rattle.raim_model.specs.Route.{time_at, flight_of}
 use Rattle.raim_model.specs.Solution.{Case}
 use Rattle.raim_model.specs.Cuts.{IsCutTime, AreCutsFrom, AreCuts, first_cut, last_cut, last_from}

@@ -1,6 +1,6 @@
 -- Where fewer satellites are usable than the test asks for, every solution has too few.
-use Rattle.std.specs.Prelude.{◌≡◌, ℕ, ◌≤◌, ◌<◌, ◌+◌, ℤ, Bool, true, false, cond, nat_lt, if◌then◌else◌, List, [], ◌∷◌, length, refl}
-use Rattle.std.proofs.Common.{arith, ap, sym, ◌∙◌, subst}
+use Rattle.std.specs.Prelude.{◌≡◌, ℕ, ◌≤◌, ◌<◌, ℤ, Bool, true, false, nat_lt, if◌then◌else◌, List, [], ◌∷◌, length, refl}
+use Rattle.std.proofs.Common.{arith}
 use Rattle.fractions.specs.Fraction.{Fraction}
 use Rattle.raim_model.specs.declared.almanac.AlmRecord.{AlmRecord}
 use Rattle.raim_model.specs.declared.verdict.Why.TheVariants.{Few}
@@ -9,9 +9,9 @@ use Rattle.raim_model.specs.Geometry.{Row, SquaredShift, weighed}
 use Rattle.raim_model.specs.Level.{Level}
 use Rattle.raim_model.specs.Look.{direction_row}
 use Rattle.raim_model.specs.Orbit.{satellite_position}
-use Rattle.raim_model.specs.PointVerdict.{least_count, reason_of, kappa_of, point_verdict, verdict_for}
+use Rattle.raim_model.specs.PointVerdict.{least_count, reason_of, kappa_of, verdict_for}
 use Rattle.raim_model.specs.Receiver.{Site, site}
-use Rattle.raim_model.specs.Solution.{Case, Sightings, Solution, HasVerdictFor, usable, is_seen, visible_rows, rows_of}
+use Rattle.raim_model.specs.Solution.{Case, Sightings, HasVerdictFor, usable, is_seen, visible_rows, rows_of}
 use Rattle.raim_model.specs.Weights.{weight_of}
 
 -- no more satellites are visible than are looked at

@@ -1,5 +1,5 @@
 -- Each millisecond of a flight lies on one leg, and a root piece lies on one.
-use Rattle.std.specs.Prelude.{◌≡◌, ℕ, suc, ◌-◌, ℤ, pos, ◌≤ℤ◌, ◌<ℤ◌, ◌<◌, Bool, true, false, if◌then◌else◌, List, [], ◌∷◌, ◌++◌, length, map, slice_index_or, Contains, AllPairs, Some, None, refl}
+use Rattle.std.specs.Prelude.{◌≡◌, suc, ◌-◌, ℤ, pos, ◌≤ℤ◌, ◌<ℤ◌, ◌<◌, true, false, List, [], ◌∷◌, ◌++◌, length, map, slice_index_or, Contains, AllPairs, Some, None, refl}
 use lib.Signed.{lt_z}
 use Rattle.std.specs.List.{flat_map}
 use Rattle.std.proofs.Common.{arith, ap, sym, ◌∙◌, subst, inl}
@@ -7,7 +7,7 @@ use Rattle.std.proofs.lemmas.Int.{ints, by_lt_z}
 use Rattle.std.proofs.lemmas.List.Elements.{Contains-append_left, Contains-append_right}
 use Rattle.raim_model.specs.declared.waypoint.Waypoint.{Waypoint}
 use Rattle.raim_model.specs.Receiver.{OnLeg}
-use Rattle.raim_model.specs.Route.{time_at, flight_of}
+use Rattle.raim_model.specs.Route.{time_at}
 use Rattle.flight_laws.specs.Legs.{Leg, leg_at}
 use Rattle.std.specs.declared.option.Option.{Option}
 use Rattle.raim_model.specs.Solution.{Case, InFlight}

@@ -1,6 +1,6 @@
 -- A case has one list of cuts: two strictly rising lists of the same times are one.
-use Rattle.std.specs.Prelude.{◌≡◌, ℕ, zero, suc, ◌<◌, ℤ, ◌≤ℤ◌, ◌<ℤ◌, ◌↔◌, ◌⊎◌, List, [], ◌∷◌, Contains, AllPairs, refl}
-use Rattle.std.proofs.Common.{arith, ap, ap₂, sym, ◌∙◌, subst, inl, inr}
+use Rattle.std.specs.Prelude.{◌≡◌, zero, suc, ℤ, ◌≤ℤ◌, ◌<ℤ◌, List, [], ◌∷◌, Contains, AllPairs, refl}
+use Rattle.std.proofs.Common.{arith, ap₂, sym, ◌∙◌, subst, inl, inr}
 use Rattle.std.proofs.lemmas.Int.{ints, by_lt_z}
 use Rattle.raim_model.specs.Route.{flight_of}
 use Rattle.raim_model.specs.Solution.{Case}

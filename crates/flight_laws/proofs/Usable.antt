@@ -1,19 +1,19 @@
 -- Inside a root piece the same almanac is in force and the same satellites are usable at each millisecond.
-use Rattle.std.specs.Prelude.{◌≡◌, ℕ, ℤ, ◌≤ℤ◌, ◌<ℤ◌, Bool, true, false, not, ◌&&◌, ◌||◌, ◌==◌, int_lt, int_le, List, [], ◌∷◌, ◌++◌, map, Contains, Some, None, refl, All, filter, length, ◌≤◌}
+use Rattle.std.specs.Prelude.{◌≡◌, ℕ, ℤ, ◌≤ℤ◌, ◌<ℤ◌, int_le, List, [], ◌∷◌, map, Contains, Some, None, refl, filter, length, ◌≤◌}
 use Rattle.std.specs.List.{flat_map, AllByRecursion}
 use Rattle.std.specs.declared.option.Option.{Option}
-use Rattle.std.proofs.Common.{arith, ap, sym, ◌∙◌, subst, inl, inr}
+use Rattle.std.proofs.Common.{arith, ap, ◌∙◌, inl, inr}
 use Rattle.std.proofs.lemmas.Int.{ints, by_lt_z}
 use Rattle.std.proofs.lemmas.List.Elements.{Contains-append_left, Contains-append_right, filter_agree, All-filter, All-contains, All-contains_itself, recursion_from_All}
 use Rattle.raim_model.specs.declared.almanac.AlmRecord.{AlmRecord}
 use Rattle.raim_model.specs.declared.outage.Outage.{Outage}
-use Rattle.raim_model.specs.Usable.{is_before_end, holds, is_out, is_usable, is_healthy}
+use Rattle.raim_model.specs.Usable.{is_before_end, holds, is_out, is_usable}
 use Rattle.raim_model.specs.AlmanacInForce.{in_force}
 use Rattle.raim_model.specs.AlmanacRanges.{AreRecords}
 use Rattle.raim_model.specs.Route.{flight_of}
 use Rattle.raim_model.specs.Solution.{Case, usable}
 use Rattle.raim_model.specs.CaseRanges.{IsCase, IsListed}
-use Rattle.raim_model.specs.CaseCuts.{end_times, outage_times, change_times, IsChange, InRootPiece, MayBeJudged}
+use Rattle.raim_model.specs.CaseCuts.{end_times, outage_times, InRootPiece, MayBeJudged}
 use Rattle.almanac_laws.proofs.Nearest.{is_one, nearest_first}
 use Rattle.almanac_laws.proofs.Handovers.{same_in_force}
 

@@ -1,7 +1,7 @@
 -- From the inequality that intervals certify, which has no division, to the verdict.
 use Rattle.std.specs.Prelude.{◌≡◌, ℕ, zero, suc, ◌<◌, List, [], ◌∷◌, length, slice_index_or, Some, None, refl}
 use Rattle.std.proofs.Common.{arith, ap, sym, ◌∙◌}
-use Rattle.fractions.specs.Fraction.{Fraction, zeroᶠ, ◌+ᶠ◌, ◌*ᶠ◌, ◌≤ᶠ◌, ◌<ᶠ◌}
+use Rattle.fractions.specs.Fraction.{Fraction, zeroᶠ, ◌*ᶠ◌, ◌≤ᶠ◌, ◌<ᶠ◌}
 use Rattle.fractions.proofs.Laws.{*ᶠ_mono_left, not_negative_square}
 use Rattle.fractions.proofs.StrictOrder.{<ᶠ_from_not, <ᶠ_not, <ᶠ_≤ᶠ_trans, positive_product, *ᶠ_cancel}
 use Rattle.fractions.proofs.Quote.{quote, identity}

@@ -2,6 +2,5 @@ pub mod Removal
 pub mod Kept
 pub mod Steep
 pub mod Told
-pub mod CheckedInside
 pub mod ShiftSlopes
 pub mod Fews

@@ -32,7 +32,7 @@ use Rattle.slope_laws.specs.declared.shift.Shift.{Shift}
 use Rattle.slope_laws.specs.declared.shift.Shift.TheVariants.{Horizontal, Vertical}
 use Rattle.slope_laws.specs.ShiftSlopes.{squared_shift, squared_of, compared, outcome_of, ends_of, determinant_of, slopes_for}
 use Rattle.slope_laws.specs.Hold.{Certifies, LeavesOutcome, HoldsSlopes}
-use Rattle.slope_laws.proofs.CheckedInside.{checked_isotone}
+use Rattle.fix_interval.proofs.CheckedProducts.{checked_isotone}
 
 pub plain_lies : (rows : List NamedRow) (gs : List Row) → NamedRowsLie rows gs → RowsLie (ends_of rows) gs
 plain_lies [] [] h = tt

@@ -1,8 +1,8 @@
 -- The drift of a node, as sums of fractions.
-use Rattle.std.specs.Prelude.{◌≡◌, ℤ, pos, ◌-ℤ◌, [], ◌∷◌, refl}
+use Rattle.std.specs.Prelude.{◌≡◌, ℤ, pos, ◌-ℤ◌, [], ◌∷◌}
 use Rattle.std.proofs.Common.{arith, ap, ◌∙◌}
 use Rattle.std.proofs.lemmas.Int.{ints}
-use Rattle.fractions.specs.Fraction.{Fraction, whole, zeroᶠ, ◌+ᶠ◌, ◌-ᶠ◌, ◌*ᶠ◌}
+use Rattle.fractions.specs.Fraction.{Fraction, whole, ◌+ᶠ◌, ◌-ᶠ◌, ◌*ᶠ◌}
 use Rattle.fractions.proofs.Quote.{quote, identity}
 
 at_once : (a r w k : Fraction) → a +ᶠ (r -ᶠ w) *ᶠ whole (pos 0) -ᶠ w *ᶠ k ≡ a -ᶠ w *ᶠ k

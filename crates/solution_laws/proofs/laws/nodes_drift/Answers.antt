@@ -1,4 +1,3 @@
-use Rattle.fractions.specs.Fraction.{whole}
 use Rattle.raim_model.specs.Constants.{earth_rotation}
 use Rattle.raim_model.specs.Decimal.{turns_of_angle, turns_of_rate}
 use Rattle.solution_laws.proofs.Nodes.{at_its_time, drifts}
