@@ -1,12 +1,11 @@
 -- A decided verdict on a list of rows is that of each list inside.
 use Rattle.std.specs.Prelude.{◌≡◌, ◌≢◌, ℕ, suc, ℤ, ◌≤ℤ◌, ◌<ℤ◌, Bool, true, false, if◌then◌else◌, nat_lt, ◌⊎◌, List, [], ◌∷◌, length, map, Some, None, refl}
 use Rattle.std.specs.declared.option.Option.{Option}
-use Rattle.std.proofs.Common.{arith, ap, sym, ◌∙◌, inl, inr}
+use Rattle.std.proofs.Common.{arith, ap, inl, inr}
 use Rattle.std.proofs.lemmas.Int.{ints, by_lt_z}
 use lib.Signed.{lt_z}
 use Rattle.raim_model.specs.declared.verdict.Why.{Why}
 use Rattle.raim_model.specs.declared.verdict.Why.TheVariants as why
-use Rattle.raim_model.specs.declared.verdict.Cmp.TheVariants as cmp
 use Rattle.fix_interval.specs.Ends.{Ends, IsInside}
 use Rattle.slope_laws.specs.declared.subset.SubsetVerdict.{SubsetVerdict}
 use Rattle.slope_laws.specs.declared.subset.SubsetVerdict.TheVariants.{Pass, Fail, Straddle, Overflow}

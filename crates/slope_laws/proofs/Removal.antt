@@ -1,10 +1,9 @@
 -- S_ii is D_i / D: the residual of a row, times the determinant, is the determinant without that row.
-use Rattle.std.specs.Prelude.{◌≡◌, ℕ, zero, suc, ◌<◌, List, [], ◌∷◌, map, length, slice_index_or, refl}
-use Rattle.std.proofs.Common.{arith, ap, sym, ◌∙◌}
-use Rattle.fractions.specs.Fraction.{Fraction, ◌+ᶠ◌, ◌-ᶠ◌, ◌*ᶠ◌}
+use Rattle.std.specs.Prelude.{◌≡◌, [], ◌∷◌, refl}
+use Rattle.std.proofs.Common.{ap, sym, ◌∙◌}
+use Rattle.fractions.specs.Fraction.{Fraction, ◌-ᶠ◌, ◌*ᶠ◌}
 use Rattle.fractions.proofs.Quote.{quote, identity}
-use Rattle.raim_model.specs.Geometry.{Axis, East, North, Up, Clock, Row, Matrix, normal_matrix, determinant, unit, over_axes, with_column, IsInverse, residual_share}
-use Rattle.raim_model.specs.PointVerdict.{without_one}
+use Rattle.raim_model.specs.Geometry.{Axis, East, North, Up, Clock, Row, Matrix, determinant, unit, over_axes, with_column, IsInverse, residual_share}
 use Rattle.geometry_laws.proofs.Cramer.{over_same, cramer}
 
 det_without : (h : Matrix) (g : Row) → determinant (λ j k. h j k -ᶠ g j *ᶠ g k) ≡ determinant h -ᶠ over_axes (λ j. g j *ᶠ over_axes (λ k. determinant (with_column h j (unit k)) *ᶠ g k))

@@ -1,15 +1,15 @@
 -- The test of the slopes of either shift encloses, and is isotone.
-use Rattle.std.specs.Prelude.{◌≡◌, ◌≢◌, ℕ, ℤ, pos, ◌≤ℤ◌, ◌<ℤ◌, Bool, true, false, if◌then◌else◌, ◌⊎◌, List, [], ◌∷◌, map, Some, None, is_some, IsSome, refl}
+use Rattle.std.specs.Prelude.{◌≡◌, ◌≢◌, ℤ, ◌≤ℤ◌, ◌<ℤ◌, Bool, true, false, if◌then◌else◌, ◌⊎◌, List, [], ◌∷◌, Some, None, is_some, refl}
 use Rattle.std.specs.declared.option.Option.{Option}
 use Rattle.std.proofs.Common.{arith, ap, sym, ◌∙◌, subst, inl, inr}
 use Rattle.std.proofs.lemmas.Int.{ints, by_lt_z}
 use Rattle.std.proofs.lemmas.Bool.{cases_Bool}
 use lib.Signed.{le_z, lt_z}
-use Rattle.fractions.specs.Fraction.{Fraction, ◌+ᶠ◌, ◌*ᶠ◌, ◌≤ᶠ◌, ◌<ᶠ◌}
-use Rattle.raim_model.specs.Geometry.{East, North, Up, Row, Matrix, normal_matrix, determinant, apply, SquaredShift, horizontal, vertical}
+use Rattle.fractions.specs.Fraction.{Fraction, ◌+ᶠ◌, ◌*ᶠ◌}
+use Rattle.raim_model.specs.Geometry.{East, North, Up, Row, Matrix, normal_matrix, determinant, apply}
 use Rattle.fix_interval.specs.Ends.{Ends, IsInside}
 use Rattle.fix_interval.specs.Lies.{Lies}
-use Rattle.fix_interval.specs.Products.{mul_wide_of, checked_mul_of, narrow76_of, sqr_wide_of}
+use Rattle.fix_interval.specs.Products.{mul_wide_of, checked_mul_of, sqr_wide_of}
 use Rattle.fix_interval.specs.Sums.{add_of}
 use Rattle.fix_interval.proofs.EndBounds.{below_encloses, strictly_below_encloses}
 use Rattle.fix_interval.proofs.EndProducts.{narrow76_encloses, narrow76_isotone}
@@ -20,13 +20,11 @@ use Rattle.geometry_laws.proofs.Shifts.{horizontal_square, vertical_square}
 use Rattle.geom_laws.specs.Rows.{RowEnds, RowLies, RowInside, RowsLie, RowsInside}
 use Rattle.geom_laws.specs.Symmetric.{SymEnds, SymLies, SymInside}
 use Rattle.geom_laws.specs.Gram.{gram_of}
-use Rattle.geom_laws.specs.Determinant.{det_of}
 use Rattle.geom_laws.specs.Adjugate.{adjugate_of, alpha_of, horizontal_of, vertical_of}
 use Rattle.geom_laws.proofs.Minors.{product_lies, sum_lies, product_inside, sum_inside, det_lies, det_inside}
 use Rattle.geom_laws.proofs.Grams.{gram_lies, gram_inside}
 use Rattle.geom_laws.proofs.Adjugates.{adjugate_lies, adjugate_inside, alpha_lies, alpha_inside}
-use Rattle.slope_laws.specs.Rows.{NamedRow, NamedRowsLie, NamedInside, NamedRowsInside, Removal}
-use Rattle.slope_laws.specs.declared.outcome.Outcome.{Outcome}
+use Rattle.slope_laws.specs.Rows.{NamedRow, NamedRowsLie, NamedInside, NamedRowsInside}
 use Rattle.slope_laws.specs.declared.outcome.Outcome.TheVariants.{Passes, Fails, Straddles, Overflows}
 use Rattle.slope_laws.specs.declared.shift.Shift.{Shift}
 use Rattle.slope_laws.specs.declared.shift.Shift.TheVariants.{Horizontal, Vertical}

@@ -1,14 +1,13 @@
 -- From the inequality that intervals certify, which has no division, to whether a slope is too steep.
-use Rattle.std.specs.Prelude.{◌≡◌, ◌≢◌, ℕ, ◌<◌, Bool, true, false, not, ◌||◌, T, List, [], ◌∷◌, map, length, Some, None, refl}
-use Rattle.std.proofs.Common.{arith, ap, sym, ◌∙◌, subst}
-use Rattle.fractions.specs.Fraction.{Fraction, ratio, zeroᶠ, ◌+ᶠ◌, ◌-ᶠ◌, ◌*ᶠ◌, ◌≤ᶠ◌, ◌<ᶠ◌, is_at_most}
+use Rattle.std.specs.Prelude.{◌≡◌, Bool, true, false, not, T, List, [], ◌∷◌, map, refl}
+use Rattle.std.proofs.Common.{ap, sym, ◌∙◌}
+use Rattle.fractions.specs.Fraction.{Fraction, zeroᶠ, ◌+ᶠ◌, ◌-ᶠ◌, ◌*ᶠ◌, ◌≤ᶠ◌, ◌<ᶠ◌, is_at_most}
 use Rattle.fractions.proofs.Laws.{*ᶠ_mono_left, not_negative_square}
-use Rattle.fractions.proofs.StrictOrder.{<ᶠ_from_not, <ᶠ_not, <ᶠ_≤ᶠ_trans, *ᶠ_cancel, positive_product, positive_apart, positive_numeral, ≤ᶠ_<ᶠ_trans}
+use Rattle.fractions.proofs.StrictOrder.{<ᶠ_from_not, <ᶠ_not, <ᶠ_≤ᶠ_trans, *ᶠ_cancel, positive_product, positive_apart, positive_numeral}
 use Rattle.fractions.proofs.Quote.{quote, identity}
-use Rattle.raim_model.specs.declared.verdict.Why.TheVariants.{Singular, Slope}
 use Rattle.raim_model.specs.Constants.{least_determinant}
-use Rattle.raim_model.specs.Geometry.{Axis, East, North, Up, Clock, Row, Matrix, normal_matrix, determinant, over_axes, unit, with_column, apply, IsInverse, inverse_of, SquaredShift, residual_share}
-use Rattle.raim_model.specs.PointVerdict.{is_below, is_steep, is_some_steep, fault_of, without_one}
+use Rattle.raim_model.specs.Geometry.{Axis, Row, Matrix, normal_matrix, determinant, IsInverse, inverse_of, SquaredShift, residual_share}
+use Rattle.raim_model.specs.PointVerdict.{is_below, is_steep, without_one}
 use Rattle.geometry_laws.specs.Minors.{adjugate}
 use Rattle.geometry_laws.specs.Shifts.{IsSquare}
 use Rattle.geometry_laws.proofs.Cramer.{inverse_of_is}

@@ -1,21 +1,20 @@
 -- A decided verdict on a list of rows tells the model's reason for every choice of rows inside.
-use Rattle.std.specs.Prelude.{◌≡◌, ℕ, zero, suc, ◌-◌, ℤ, pos, ◌^◌, ◌<◌, ◌≤◌, ◌≤ℤ◌, ◌<ℤ◌, Bool, true, false, ◌||◌, if◌then◌else◌, nat_lt, ◌⊎◌, List, [], ◌∷◌, length, map, Some, None, refl}
+use Rattle.std.specs.Prelude.{◌≡◌, ℕ, zero, suc, ◌-◌, pos, ◌^◌, ◌<◌, ◌≤◌, ◌≤ℤ◌, ◌<ℤ◌, Bool, true, false, ◌||◌, if◌then◌else◌, List, [], ◌∷◌, length, map, Some, None, refl}
 use Rattle.std.specs.declared.option.Option.{Option}
-use Rattle.std.proofs.Common.{arith, ap, sym, ◌∙◌, subst, inl, inr}
+use Rattle.std.proofs.Common.{arith, ap, subst, inl, inr}
 use Rattle.std.proofs.lemmas.Int.{ints}
 use Rattle.std.proofs.lemmas.Bool.{cases_lt, lt-ltb, le-ltb}
-use Rattle.fractions.specs.Fraction.{Fraction, ratio, zeroᶠ, ◌*ᶠ◌, ◌≤ᶠ◌, ◌<ᶠ◌}
+use Rattle.fractions.specs.Fraction.{Fraction, ratio, ◌*ᶠ◌, ◌≤ᶠ◌, ◌<ᶠ◌}
 use Rattle.fractions.proofs.Laws.{≤ᶠ_trans}
 use Rattle.fractions.proofs.Ratios.{ratio_mono, ratio-same}
 use Rattle.fractions.proofs.StrictOrder.{≤ᶠ_<ᶠ_trans, ratio_below}
 use Rattle.raim_model.specs.declared.verdict.Why.{Why}
 use Rattle.raim_model.specs.declared.verdict.Why.TheVariants as why
-use Rattle.raim_model.specs.declared.verdict.Cmp.TheVariants as cmp
 use Rattle.raim_model.specs.Constants.{least_determinant}
-use Rattle.raim_model.specs.Geometry.{Axis, Row, Matrix, normal_matrix, determinant, inverse_of, SquaredShift}
+use Rattle.raim_model.specs.Geometry.{Row, normal_matrix, determinant, inverse_of, SquaredShift}
 use Rattle.geometry_laws.specs.Minors.{adjugate}
 use Rattle.geometry_laws.specs.Shifts.{IsSquare}
-use Rattle.raim_model.specs.PointVerdict.{is_steep, is_some_steep, fault_of, without_one, or_else, first_fault, reason_of, least_count}
+use Rattle.raim_model.specs.PointVerdict.{is_steep, is_some_steep, fault_of, without_one, or_else, first_fault, reason_of}
 use Rattle.fix_interval.specs.Ends.{Ends}
 use Rattle.fix_interval.specs.Lies.{Lies}
 use Rattle.slope_laws.specs.declared.subset.SubsetVerdict.{SubsetVerdict}
@@ -26,7 +25,7 @@ use Rattle.slope_laws.specs.declared.outcome.Outcome.TheVariants.{Passes, Fails,
 use Rattle.slope_laws.specs.Slopes.{SlopeTest, is_fails, is_straddles, is_overflows, first_such, of_slopes, slopes_of, least_units, of_determinant, detect_by}
 use Rattle.slope_laws.specs.Subsets.{named_without, unless_passes, first_open, exclude_by}
 use Rattle.slope_laws.specs.Hold.{Certifies, Tells, HoldsSlopes}
-use Rattle.slope_laws.proofs.Kept.{if_none, some_if, Passing, passing, below_least}
+use Rattle.slope_laws.proofs.Kept.{some_if, Passing, passing, below_least}
 use Rattle.slope_laws.proofs.Steep.{AreRemoved, are_removed, not_steep, steep, below_is, below_is_not}
 
 pub lie_length : (rows : List NamedRow) (gs : List Row) → NamedRowsLie rows gs → length rows ≡ length gs

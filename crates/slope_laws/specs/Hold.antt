@@ -8,7 +8,6 @@ use Rattle.fractions.specs.Fraction.{Fraction, ◌*ᶠ◌, ◌≤ᶠ◌, ◌<ᶠ
 use Rattle.raim_model.specs.Geometry.{Row, SquaredShift, normal_matrix, determinant}
 use Rattle.geometry_laws.specs.Minors.{adjugate}
 use Rattle.geometry_laws.specs.Shifts.{IsSquare}
-use Rattle.geom_laws.specs.Rows.{RowLies, RowInside}
 use Rattle.fix_interval.specs.Ends.{Ends, IsInside}
 use Rattle.fix_interval.specs.Lies.{Lies}
 use Rattle.slope_laws.specs.Rows.{NamedRow, NamedLies, NamedRowsLie, NamedInside, NamedRowsInside, Removal}

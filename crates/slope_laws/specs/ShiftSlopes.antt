@@ -16,7 +16,7 @@ use Rattle.slope_laws.specs.declared.outcome.Outcome.TheVariants.{Passes, Fails,
 use Rattle.slope_laws.specs.declared.shift.Shift.{Shift}
 use Rattle.slope_laws.specs.declared.shift.Shift.TheVariants.{Horizontal, Vertical}
 use Rattle.slope_laws.specs.declared.subset.SubsetVerdict.{SubsetVerdict}
-use Rattle.slope_laws.specs.Rows.{NamedRow, Removal}
+use Rattle.slope_laws.specs.Rows.{NamedRow}
 use Rattle.slope_laws.specs.Slopes.{SlopeTest, detect_by}
 use Rattle.slope_laws.specs.Subsets.{exclude_by}
 

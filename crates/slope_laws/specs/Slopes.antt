@@ -7,7 +7,7 @@ use Rattle.raim_model.specs.declared.verdict.Why.TheVariants as why
 use Rattle.raim_model.specs.declared.verdict.Cmp.TheVariants as cmp
 use Rattle.fix_interval.specs.Ends.{Ends}
 use Rattle.slope_laws.specs.declared.outcome.Outcome.{Outcome}
-use Rattle.slope_laws.specs.declared.outcome.Outcome.TheVariants.{Passes, Fails, Straddles, Overflows}
+use Rattle.slope_laws.specs.declared.outcome.Outcome.TheVariants.{Fails, Straddles, Overflows}
 use Rattle.slope_laws.specs.declared.subset.SubsetVerdict.{SubsetVerdict}
 use Rattle.slope_laws.specs.declared.subset.SubsetVerdict.TheVariants.{Pass, Fail, Straddle, Overflow}
 use Rattle.slope_laws.specs.Rows.{NamedRow, Removal, removals}

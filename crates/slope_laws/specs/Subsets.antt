@@ -5,7 +5,7 @@ use Rattle.raim_model.specs.declared.verdict.Cmp.{Cmp}
 use Rattle.raim_model.specs.declared.verdict.Cmp.TheVariants.{Det, Slope, DetWithout, SlopeWithout}
 use Rattle.fix_interval.specs.Ends.{Ends}
 use Rattle.slope_laws.specs.declared.subset.SubsetVerdict.{SubsetVerdict}
-use Rattle.slope_laws.specs.declared.subset.SubsetVerdict.TheVariants.{Pass, Fail, Straddle, Overflow}
+use Rattle.slope_laws.specs.declared.subset.SubsetVerdict.TheVariants.{Pass, Fail, Straddle}
 use Rattle.slope_laws.specs.Rows.{NamedRow, Removal, removals}
 use Rattle.slope_laws.specs.Slopes.{SlopeTest, detect_by}
 

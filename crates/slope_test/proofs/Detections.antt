@@ -1,5 +1,5 @@
 -- The cases of the test of a list of rows.
-use Rattle.std.specs.Prelude.{◌≡◌, ℕ, ◌<◌, ◌≤◌, ℤ, pos, ◌≤ℤ◌, ◌<ℤ◌, Bool, true, false, List, length, map, refl}
+use Rattle.std.specs.Prelude.{◌≡◌, ◌<◌, ◌≤◌, ℤ, ◌≤ℤ◌, ◌<ℤ◌, true, false, List, length, refl}
 use Rattle.std.proofs.Common.{arith, ap, sym, subst, ◌∙◌}
 use Rattle.std.proofs.lemmas.Int.{ints}
 use Rattle.std.proofs.lemmas.Bool.{lt-ltb, le-ltb}
@@ -13,11 +13,11 @@ use Rattle.geom_laws.specs.Symmetric.{SymEnds}
 use Rattle.geom_laws.specs.Gram.{gram_of}
 use Rattle.geom_laws.specs.Determinant.{det_of}
 use Rattle.slope_laws.specs.declared.SubsetVerdict.{SubsetVerdict}
-use Rattle.slope_laws.specs.declared.SubsetVerdict.TheVariants.{Fail, Straddle, Pass}
+use Rattle.slope_laws.specs.declared.SubsetVerdict.TheVariants.{Fail, Straddle}
 use Rattle.slope_laws.specs.Rows.{removals}
 use Rattle.slope_laws.proofs.Fews.{detect_few_only, exclude_few_only}
 use Rattle.slope_laws.specs.Slopes.{slopes_of, least_units, detect_by}
-use Rattle.slope_laws.specs.Subsets.{first_open, exclude_by, unless_passes}
+use Rattle.slope_laws.specs.Subsets.{first_open, exclude_by}
 use Rattle.slope_laws.specs.declared.Shift.{Shift}
 use Rattle.slope_laws.specs.ShiftSlopes.{ends_of, determinant_of, slopes_for, detect_of, exclude_of}
 use Rattle.geom_inverse.specs.declared.Row.{Row}

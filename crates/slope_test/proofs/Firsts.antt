@@ -1,5 +1,5 @@
 -- The first satellite of a longer list.
-use Rattle.std.specs.Prelude.{◌≡◌, ℕ, Bool, true, false, if◌then◌else◌, List, [], ◌∷◌, ◌++◌, Some, None, refl}
+use Rattle.std.specs.Prelude.{◌≡◌, ℕ, Bool, true, false, if◌then◌else◌, List, [], ◌∷◌, ◌++◌, Some, refl}
 use Rattle.std.specs.declared.option.Option.{Option}
 use Rattle.slope_laws.specs.declared.Outcome.{Outcome}
 use Rattle.slope_laws.specs.Rows.{Removal}

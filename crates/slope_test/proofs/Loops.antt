@@ -1,5 +1,5 @@
 -- The steps of the loops over rows.
-use Rattle.std.specs.Prelude.{◌≡◌, ℕ, ◌+◌, ◌<◌, ◌≤◌, Bool, true, false, List, [], ◌∷◌, ◌++◌, take, length, slice_index_or, refl}
+use Rattle.std.specs.Prelude.{◌≡◌, ℕ, ◌+◌, ◌<◌, ◌≤◌, true, false, List, [], ◌∷◌, ◌++◌, take, length, slice_index_or}
 use Rattle.std.proofs.Common.{arith, ap, sym, subst, ◌∙◌}
 use Rattle.std.proofs.lemmas.List.{take_all, take_more, length-map, length-take-le}
 use Rattle.fix_interval.specs.Ends.{Ends}
@@ -10,7 +10,7 @@ use Rattle.geom_laws.specs.Adjugate.{adjugate_of}
 use Rattle.slope_laws.specs.declared.Outcome.{Outcome}
 use Rattle.slope_laws.specs.declared.SubsetVerdict.{SubsetVerdict}
 use Rattle.slope_laws.specs.declared.SubsetVerdict.TheVariants.{Pass}
-use Rattle.slope_laws.specs.Rows.{NamedRow, Removal, removals}
+use Rattle.slope_laws.specs.Rows.{Removal, removals}
 use Rattle.slope_laws.specs.Subsets.{named_without, first_open}
 use Rattle.slope_laws.specs.declared.Shift.{Shift}
 use Rattle.slope_laws.specs.ShiftSlopes.{outcome_of, determinant_of, detect_of}
@@ -20,7 +20,7 @@ use Rattle.geom_inverse.specs.Views.{row_ends, rows_ends}
 use Rattle.slope_test.specs.Named.{named_row, named, slopes_over, is_pass}
 use Rattle.slope_test.specs.Tallies.{IsTally}
 use Rattle.slope_test.proofs.RowRemovals.{length-removals, removal_of, removals_more, slope_over_at}
-use Rattle.slope_test.proofs.Withouts.{without_push_other, without_push_same, map-without}
+use Rattle.slope_test.proofs.Withouts.{without_push_other, without_push_same}
 use Rattle.slope_test.proofs.Opens.{open_more, open_stops, pass_is}
 
 -- ---- slopes

@@ -1,10 +1,10 @@
 -- Magnitudes of intervals, and of their squares.
-use Rattle.std.specs.Prelude.{◌≡◌, ℕ, ◌*◌, ◌^◌, ◌≤◌, ℤ, pos, neg_ℤ, ◌≤ℤ◌, max, unsigned_abs}
+use Rattle.std.specs.Prelude.{ℕ, ◌*◌, ◌≤◌}
 use Rattle.std.proofs.Common.{arith}
 use Rattle.std.proofs.Math.Nat.{mul-le-mul}
 use Rattle.std.proofs.lemmas.Int.{ints}
 use Rattle.fix_interval.specs.declared.interval.Iv.{Iv}
-use Rattle.fix_interval.specs.Ends.{Ends, IsInside}
+use Rattle.fix_interval.specs.Ends.{IsInside}
 use Rattle.fix_interval.specs.Intervals.{ends, IsWithin, mag_of}
 use Rattle.fix_interval.specs.Ranges.{around}
 

@@ -1,10 +1,10 @@
 -- The first verdict of a list of lists that does not pass.
-use Rattle.std.specs.Prelude.{◌≡◌, ℕ, ◌+◌, ◌<◌, Bool, true, false, List, [], ◌∷◌, ◌++◌, take, drop, length, refl}
-use Rattle.std.proofs.Common.{arith, ap, sym, subst, ◌∙◌}
+use Rattle.std.specs.Prelude.{◌≡◌, ℕ, ◌+◌, true, false, List, [], ◌∷◌, ◌++◌, take, drop, refl}
+use Rattle.std.proofs.Common.{ap, sym, ◌∙◌}
 use Rattle.std.proofs.lemmas.List.{take-append-drop}
 use Rattle.slope_laws.specs.declared.SubsetVerdict.{SubsetVerdict}
 use Rattle.slope_laws.specs.declared.SubsetVerdict.TheVariants.{Pass, Fail, Straddle, Overflow}
-use Rattle.slope_laws.specs.Rows.{NamedRow, Removal, removals}
+use Rattle.slope_laws.specs.Rows.{NamedRow, Removal}
 use Rattle.slope_laws.specs.Subsets.{named_without, unless_passes, first_open}
 use Rattle.slope_test.specs.Named.{is_pass}
 

@@ -1,4 +1,4 @@
-use Rattle.std.proofs.Common.{◌≡◌, sym, subst, ◌∙◌}
+use Rattle.std.proofs.Common.{sym, subst, ◌∙◌}
 use Rattle.std.specs.Prelude.{true}
 use Rattle.raim_model.specs.PointVerdict.{reason_of}
 use Rattle.fix_interval.specs.Intervals.{ends}

@@ -1,4 +1,4 @@
-use Rattle.std.proofs.Common.{arith, ◌≡◌, sym, ◌∙◌}
+use Rattle.std.proofs.Common.{arith, sym, ◌∙◌}
 use Rattle.fix_interval.specs.Intervals.{ends}
 use Rattle.slope_test.proofs.Detections.{exclude_few, exclude_whole, exclude_subsets}
 use Rattle.exclusion_subsets.proofs.exclusion.excluded.Goals as goal

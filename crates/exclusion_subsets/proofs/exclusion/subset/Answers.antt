@@ -1,4 +1,4 @@
-use Rattle.std.proofs.Common.{◌≡◌, sym, ap, ◌∙◌}
+use Rattle.std.proofs.Common.{sym, ap, ◌∙◌}
 use Rattle.fix_interval.specs.Intervals.{ends}
 use Rattle.geom_laws.specs.Gram.{sums_of}
 use Rattle.geom_inverse.specs.Views.{row_ends, rows_ends}

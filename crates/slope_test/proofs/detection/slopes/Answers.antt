@@ -1,4 +1,4 @@
-use Rattle.std.proofs.Common.{◌≡◌, refl, ap, ◌∙◌}
+use Rattle.std.proofs.Common.{refl, ap, ◌∙◌}
 use Rattle.fix_interval.specs.Intervals.{ends}
 use Rattle.geom_laws.specs.Adjugate.{adjugate_of}
 use Rattle.slope_laws.specs.Rows.{removals}

@@ -1,7 +1,7 @@
-use Rattle.std.proofs.Common.{arith, ◌≡◌, ◌^◌, ◌*◌, refl, sym, ap, ◌∙◌}
+use Rattle.std.proofs.Common.{arith, ◌^◌, ◌*◌, ap, ◌∙◌}
 use Rattle.std.proofs.lemmas.Int.{ints}
 use Rattle.fix_interval.specs.Ends.{IsInside}
-use Rattle.fix_interval.specs.Intervals.{ends, IsWithin}
+use Rattle.fix_interval.specs.Intervals.{ends}
 use Rattle.fix_interval.specs.Products.{sqr_wide_of, narrow76_of}
 use Rattle.fix_interval.specs.Ranges.{around}
 use Rattle.geom_laws.specs.Adjugate.{horizontal_of}

@@ -1,4 +1,4 @@
-use Rattle.std.proofs.Common.{arith, ◌≡◌, ◌^◌, ◌*◌, ap, ◌∙◌}
+use Rattle.std.proofs.Common.{arith, ◌^◌, ◌*◌, ap, ◌∙◌}
 use Rattle.fix_interval.specs.Products.{narrow76_of}
 use Rattle.geom_laws.specs.Adjugate.{vertical_of}
 use Rattle.slope_test.proofs.Mags.{mags}

@@ -1,6 +1,5 @@
-use Rattle.std.proofs.Common.{◌≡◌, refl}
+use Rattle.std.proofs.Common.{refl}
 use Rattle.slope_laws.specs.Slopes.{is_fails, is_straddles, is_overflows}
-use Rattle.slope_test.specs.Tallies.{kept_first}
 use Rattle.slope_test.proofs.Firsts.{first_more}
 use Rattle.slope_test.proofs.tally.Tally.with.Goals as goal
 
