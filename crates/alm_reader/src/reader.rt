@@ -1,5 +1,5 @@
 // A file of several almanacs, read line by line.
-ghost use Rattle.std.specs.Prelude.{◌≡◌, ◌++◌, ◌∷◌, [], List, Err, Some, IfOk, IfErr, true, All};
+ghost use Rattle.std.specs.Prelude.{◌≡◌, ◌++◌, ◌∷◌, [], List, Err, Some, IfOk, IfErr, true, All, length, nat_lt};
 ghost use Rattle.raim_model.specs.declared.Span.{Span};
 ghost use Rattle.raim_model.specs.declared.TextFault.{TextFault};
 ghost use Rattle.raim_model.specs.Span.{IsFlight};
@@ -39,6 +39,13 @@ fn separates(line: &[u8]) -> bool
         Some(word) => word == b"---".as_slice(),
         None => false,
     }
+}
+
+// Whether one more almanac may follow these.
+fn has_room(done: &[Almanac]) -> bool
+    ensures { result ≡ nat_lt (length done.now) 8 }
+{
+    done.len() < MOST_ALMANACS
 }
 
 impl AlmanacReader {
@@ -100,7 +107,7 @@ impl AlmanacReader {
             Ok(records) => {
                 self.done.try_push(Almanac { records });
                 self.begun = self.lines;
-                if self.done.as_slice().len() < MOST_ALMANACS {
+                if has_room(self.done.as_slice()) {
                     return Ok(());
                 }
                 self.fail(TextFault {
