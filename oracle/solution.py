@@ -4,7 +4,7 @@
 What is chosen at the level (roots, the eccentric anomaly, sines and cosines) is chosen here from Taylor sums and whole
 square roots, and held against the condition that admits it. What is determined by it is worked out without rounding.
 Everything is printed to 30 digits. The constants are written here from their sources and held against the table of the
-page; the result is held against floating point and against the intervals of orbits.py.
+page; the result is held against floating point and against the intervals of orbits.py and receivers.py.
 
 Lengths are in Mm, angles in turns, times in milliseconds.
 """
@@ -13,7 +13,9 @@ import re
 from fractions import Fraction
 from pathlib import Path
 
+from intervals import from_ratio
 from orbits import Record, position
+from receivers import frame, look as seen, mask_sine
 
 LEVEL = 100
 TOLERANCE = Fraction(1, 2**LEVEL)
@@ -178,6 +180,11 @@ def floating():
                               (level * math.cos(f) + d[2] * math.sin(f)) / rho, 1.0]
 
 
+def hold(intervals, values):
+    for (low, high), value in zip(intervals, values):
+        assert low <= value * 2**38 <= high
+
+
 def value_of(words):
     """A fraction as the page writes it: whole numbers, decimals, powers of ten."""
     words = words.replace(",", "").replace(" x 10^", "e").replace("(1000 tau)", "@")
@@ -220,5 +227,11 @@ if __name__ == "__main__":
     assert all(abs(a - float(b)) < 1e-9 for a, b in pairs)
     record = Record("0.01086759567", TOA, ("rad", "0.96013574"), ("rad", "-0.000000008126052768"), "5153.636719",
                     ("rad", "1.296372856"), ("rad", "0.812318933"), ("rad", "-0.9442756846"))
-    for (low, high), value in zip(position(record, TIME, TIME), place):
-        assert low <= value * 2**38 <= high
+    over_intervals = position(record, TIME, TIME)
+    hold(over_intervals, place)
+    stand = frame(tuple(from_ratio(x.numerator, x.denominator) for x in (LATITUDE, LONGITUDE, HEIGHT)))
+    for vector, values in zip((stand.position, stand.east, stand.north, stand.up), (site, *axes)):
+        hold(vector, values)
+    kind, *direction = seen(stand, over_intervals, mask_sine("5"))
+    assert kind == ("V" if visible else "H")
+    hold(direction, row[:3])

@@ -1,0 +1,8 @@
+use Rattle.std.proofs.Common.{arith, ap}
+use Rattle.fix_interval.specs.Intervals.{ends}
+use Rattle.fix_interval.specs.Sums.{neg_of}
+use Rattle.wgs_position.proofs.directions.negative.Goals as goal
+
+pub returns : goal.returns
+unfolding neg_of
+returns c = c.sub.ensures.exact
