@@ -7,9 +7,12 @@ determines.
 Usage: python3 oracle/bench_lines.py [KIND N ..]
 """
 import sys
+from functools import reduce
 
+import geometry
 import intervals as iv
 import orbits
+import receiver_calls as receivers
 import sines
 
 WEIGHTS = (1, 3, 5, 7, 11, 13)
@@ -24,13 +27,20 @@ def starting_at(low, width):
     return (low, low + width)
 
 
+def added(total, answers):
+    """31 times the sum before, and the ends of the answers times the weights: modulo 2^61 - 1."""
+    ends = [end for answer in answers for end in answer]
+    return (31 * total + sum(w * end for w, end in zip(WEIGHTS, ends))) % MODULUS
+
+
 def summed(n, answers_of):
-    """31 times the sum before, and the ends of a call's answers times the weights: modulo 2^61 - 1."""
-    total = 0
-    for i in range(n):
-        ends = [end for answer in answers_of(i) for end in answer]
-        total = (31 * total + sum(w * end for w, end in zip(WEIGHTS, ends))) % MODULUS
-    return total
+    """The sum of a call's answers, for each call."""
+    return reduce(added, map(answers_of, range(n)), 0)
+
+
+def summed_vectors(n, vectors_of):
+    """The sum of a call's vectors, one after the other, for each call."""
+    return reduce(added, (vector for i in range(n) for vector in vectors_of(i)), 0)
 
 
 def dividend(i):
@@ -75,6 +85,93 @@ def place(i):
     return orbits.position(RECORD, t, t)
 
 
+# the numbers of the verdicts on a list of rows, and of what it is undecided by
+VERDICTS = {("Pass",): 1, ("Fail", "Few"): 2, ("Fail", "Singular"): 3, ("Fail", "Slope"): 4}
+UNDECIDED = {"Mask": 5, "Det": 6, "Slope": 7, "DetWithout": 8, "SlopeWithout": 9}
+OVERFLOW = 10
+
+
+def direction_part(i, prn):
+    low = (scattered(i % 2**32) + prn * 40503000001) % 2**64 % 549755813880
+    return starting_at(low - iv.ONE, low % 4)
+
+
+def rows(i):
+    """Twelve rows with the weight 1."""
+    return [geometry.weighed(prn, [direction_part(i + apart, prn) for apart in (0, 77, 7777)], iv.point(iv.ONE))
+            for prn in range(1, 13)]
+
+
+def kappa(i):
+    """The factor for twelve rows, from 1/32 to 2."""
+    return iv.point((i % 64 + 1) << 33)
+
+
+def kappa_less(i):
+    """The factor for eleven rows, half of that for twelve."""
+    return iv.point((i % 64 + 1) << 32)
+
+
+def numbers_of(verdict):
+    """The number of a verdict, and the satellites that it names."""
+    if verdict in VERDICTS:
+        return [VERDICTS[verdict]]
+    word, *rest = verdict
+    return [OVERFLOW, *rest] if word == "Overflow" else [UNDECIDED[rest[0]], *rest[1:]]
+
+
+def summed_verdicts(n, verdict_of):
+    """31 times the sum before and a number, for each number of the verdicts: modulo 2^61 - 1."""
+    total = 0
+    for i in range(n):
+        for number in numbers_of(verdict_of(i)):
+            total = (31 * total + number) % MODULUS
+    return total
+
+
+# the factors of numbers that scatter
+SPREAD = (2654435761, 2246822519, 3266489917)
+SPREAD_OF_MASKS = 668265263
+
+
+def place_of_receiver(i):
+    """Any latitude, at most a turn of longitude either way, and a height from -1000 m to 30000 m."""
+    lat, lon, height = (i * factor for factor in SPREAD)
+    return (starting_at(lat % 137438953470 - 68719476736, i % 4), starting_at(lon % 549755813886 - 274877906944, i % 4),
+            starting_at(height % 8521215112 - 274877906, i % 4))
+
+
+def frame_of(i):
+    found = receivers.frame(*place_of_receiver(i))
+    return [found.position, found.east, found.north, found.up]
+
+
+# a receiver at 48 degrees north, 11 degrees east and 10000 m
+RECEIVER = receivers.frame(*(starting_at(low, 1) for low in (36650387592, 8399047156, 2748779069)))
+# from how many Mm on the components of satellites are: high above it, and beyond the Earth
+ABOVE = (15, -5, 10)
+BEYOND = (-25, -5, -20)
+
+
+def satellite(side, i):
+    """Components from so many Mm to ten more, at most 2^20 units wide."""
+    places = [i * factor for factor in SPREAD]
+    return [starting_at(least * iv.ONE + at % (10 * iv.ONE), at % (2**20 + 1)) for least, at in zip(side, places)]
+
+
+def mask_of(i):
+    """The sine of a mask from 0 to 30 degrees."""
+    return starting_at(i * SPREAD_OF_MASKS % 2**37, i % 4)
+
+
+def seen(side, i):
+    """A direction that is seen; or one number for a satellite that is hidden, and another for one that straddles."""
+    found = receivers.look(RECEIVER, satellite(side, i), mask_of(i))
+    if found == "hidden":
+        return [iv.point(1)]
+    return [iv.point(2)] if found == "straddle" else found
+
+
 def judgements(first, last, is_open):
     """How many judgements a piece takes: one, and those of its halves where it is open and longer."""
     if first == last or not is_open(first, last):
@@ -96,6 +193,11 @@ KINDS = {
     "sine": lambda n: summed(n, lambda i: sines.sin_cos(turns(i))),
     "kepler": lambda n: summed(n, lambda i: sines.ecc_sin_cos(turns(i), eccentricity(i))),
     "position": lambda n: summed(n, place),
+    "detect": lambda n: summed_verdicts(n, lambda i: geometry.detect(rows(i), kappa(i))),
+    "exclude": lambda n: summed_verdicts(n, lambda i: geometry.exclude(rows(i), kappa(i), kappa_less(i))),
+    "frame": lambda n: summed_vectors(n, frame_of),
+    "look": lambda n: summed(n, lambda i: seen(ABOVE, i)),
+    "hidden_look": lambda n: summed(n, lambda i: seen(BEYOND, i)),
     # 2^40 milliseconds, of which the first is undecided; and 65,536 that are each a run
     "island": lambda n: halved(n, 2, judgements(0, 2**40 - 1, lambda first, last: first <= 0 <= last)),
     "alternating": lambda n: halved(n, 65_536, judgements(0, 65_535, lambda first, last: True)),

@@ -2,6 +2,7 @@
 
 use crate::halvings::Range;
 use crate::interval_calls::IntervalCall;
+use crate::receiver_calls::Side;
 
 /// A kind of call.
 #[derive(Clone, Copy)]
@@ -14,6 +15,14 @@ pub enum Kind {
     Kepler,
     /// The place of a satellite by its almanac.
     Position,
+    /// The test of slopes for fault detection.
+    Detect,
+    /// The test of slopes for fault exclusion.
+    Exclude,
+    /// The frame of a receiver.
+    Frame,
+    /// A look at a satellite.
+    Look(Side),
     /// A range of time that is split.
     Halving(Range),
 }
@@ -29,6 +38,11 @@ impl Kind {
             "sine" => Some(Kind::Sine),
             "kepler" => Some(Kind::Kepler),
             "position" => Some(Kind::Position),
+            "detect" => Some(Kind::Detect),
+            "exclude" => Some(Kind::Exclude),
+            "frame" => Some(Kind::Frame),
+            "look" => Some(Kind::Look(Side::Above)),
+            "hidden_look" => Some(Kind::Look(Side::Beyond)),
             "island" => Some(Kind::Halving(Range::Island)),
             "alternating" => Some(Kind::Halving(Range::Alternating)),
             _ => None,
@@ -45,6 +59,11 @@ impl Kind {
             Kind::Sine => "sine",
             Kind::Kepler => "kepler",
             Kind::Position => "position",
+            Kind::Detect => "detect",
+            Kind::Exclude => "exclude",
+            Kind::Frame => "frame",
+            Kind::Look(Side::Above) => "look",
+            Kind::Look(Side::Beyond) => "hidden_look",
             Kind::Halving(Range::Island) => "island",
             Kind::Halving(Range::Alternating) => "alternating",
         }

@@ -7,6 +7,8 @@ mod halvings;
 mod interval_calls;
 mod kind;
 mod position_calls;
+mod receiver_calls;
+mod slope_calls;
 mod sums;
 mod turn_calls;
 
@@ -16,8 +18,8 @@ use std::alloc::Global;
 use std::io::Print;
 use std::{env, io};
 
-const USAGE: &str =
-    "call_bench mul|sqr|div|sqrt|decimal|sine|kepler|position|island|alternating N ..";
+const USAGE: &str = "call_bench mul|sqr|div|sqrt|decimal|sine|kepler|position|detect|exclude|\
+    frame|look|hidden_look|island|alternating N ..";
 
 /// Makes `n` calls of a kind, and prints its line.
 fn print_line(rt: &impl Print, alloc: Global, kind: Kind, n: u32) -> io::Result<()> {
@@ -28,6 +30,30 @@ fn print_line(rt: &impl Print, alloc: Global, kind: Kind, n: u32) -> io::Result<
         Kind::Sine => println!(rt; "{} {} {}", kind.name(), n, turn_calls::sum_of_sines(n)),
         Kind::Kepler => println!(rt; "{} {} {}", kind.name(), n, turn_calls::sum_of_anomalies(n)),
         Kind::Position => println!(rt; "{} {} {}", kind.name(), n, position_calls::sum_of(n)),
+        Kind::Detect => println!(rt;
+            "{} {} {}",
+            kind.name(),
+            n,
+            slope_calls::sum_of_detections(n)
+        ),
+        Kind::Exclude => println!(rt;
+            "{} {} {}",
+            kind.name(),
+            n,
+            slope_calls::sum_of_exclusions(n)
+        ),
+        Kind::Frame => println!(rt;
+            "{} {} {}",
+            kind.name(),
+            n,
+            receiver_calls::sum_of_frames(n)
+        ),
+        Kind::Look(side) => println!(rt;
+            "{} {} {}",
+            kind.name(),
+            n,
+            receiver_calls::sum_of_looks(side, n)
+        ),
         Kind::Halving(range) => match tally_of(alloc, range, n) {
             Ok(tally) => println!(rt;
                 "{} {} runs {} judgements {}",
