@@ -1,9 +1,8 @@
-use Rattle.std.proofs.Common.{arith, rules, ap₂, ◌∙◌}
+use Rattle.std.proofs.Common.{rules, ap₂, ◌∙◌}
 use mir.Val.{SFits}
 use mir.Syntax.{w64}
 use Rattle.fix_interval.specs.Bounds.{hull_of}
-use Rattle.fix_interval.specs.Intervals.{ends}
-use Rattle.site_laws.specs.Places.{along_of, at_of}
+use Rattle.site_laws.specs.Places.{along_of}
 use Rattle.leg_place.proofs.Pieces.{plain}
 use Rattle.leg_place.proofs.place.along.Goals as goal
 

@@ -1,4 +1,4 @@
-use Rattle.std.proofs.Common.{arith, rules, ap, ap₂, ◌∙◌, ◌≡◌, ◌-ℤ◌, unsigned_abs, to_z, of_z}
+use Rattle.std.proofs.Common.{rules, ap, ap₂, ◌∙◌, ◌≡◌, ◌-ℤ◌, unsigned_abs, to_z, of_z}
 use mir.Val.{SFits}
 use mir.Syntax.{w64, w128}
 use Rattle.fix_interval.specs.Intervals.{ends}

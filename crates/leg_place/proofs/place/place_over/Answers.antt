@@ -1,10 +1,7 @@
-use Rattle.std.proofs.Common.{arith, rules, ◌≡◌, ◌+◌, ◌<◌, ◌≤ℤ◌, ◌<ℤ◌, ap, ap₂, sym, ◌∙◌, subst, length, get_or}
+use Rattle.std.proofs.Common.{arith, rules, ◌≡◌, ◌+◌, ◌≤ℤ◌, ◌<ℤ◌, ap₂, sym, ◌∙◌, subst, get_or}
 use mir.Val.{SFits}
 use mir.Syntax.{w64}
-use Rattle.std.proofs.lemmas.Int.{ints}
 use Rattle.raim_model.specs.Receiver.{place_on}
-use Rattle.raim_model.specs.Route.{time_at}
-use Rattle.fix_interval.specs.Intervals.{ends}
 use Rattle.site_laws.specs.Places.{PlaceLies, PlaceInside, PlaceNarrow, along_of, place_over_of, IsNearEarth}
 use Rattle.site_laws.proofs.PlaceOver.{place_over_isotone, place_over_near_earth}
 use Rattle.leg_place.specs.Places.{place_ends}

@@ -1,6 +1,4 @@
-use Rattle.std.proofs.Common.{arith, rules, ap, ◌∙◌, subst, ℤ, ◌≤ℤ◌}
-use mir.Val.{SFits}
-use mir.Syntax.{w64}
+use Rattle.std.proofs.Common.{arith, ap, ◌∙◌, ℤ, ◌≤ℤ◌}
 use Rattle.std.proofs.lemmas.Int.{ints}
 use Rattle.fix_interval.specs.Intervals.{ends}
 use Rattle.fix_interval.specs.Products.{scale_int_of}
