@@ -12,7 +12,7 @@ from functools import reduce
 import geometry
 import intervals as iv
 import orbits
-import receiver_calls as receivers
+import receivers
 import sines
 
 WEIGHTS = (1, 3, 5, 7, 11, 13)
@@ -142,12 +142,12 @@ def place_of_receiver(i):
 
 
 def frame_of(i):
-    found = receivers.frame(*place_of_receiver(i))
+    found = receivers.frame(place_of_receiver(i))
     return [found.position, found.east, found.north, found.up]
 
 
 # a receiver at 48 degrees north, 11 degrees east and 10000 m
-RECEIVER = receivers.frame(*(starting_at(low, 1) for low in (36650387592, 8399047156, 2748779069)))
+RECEIVER = receivers.frame([starting_at(low, 1) for low in (36650387592, 8399047156, 2748779069)])
 # from how many Mm on the components of satellites are: high above it, and beyond the Earth
 ABOVE = (15, -5, 10)
 BEYOND = (-25, -5, -20)
@@ -166,10 +166,8 @@ def mask_of(i):
 
 def seen(side, i):
     """A direction that is seen; or one number for a satellite that is hidden, and another for one that straddles."""
-    found = receivers.look(RECEIVER, satellite(side, i), mask_of(i))
-    if found == "hidden":
-        return [iv.point(1)]
-    return [iv.point(2)] if found == "straddle" else found
+    kind, *direction = receivers.look(RECEIVER, satellite(side, i), mask_of(i))
+    return {"H": [iv.point(1)], "S": [iv.point(2)], "V": direction}[kind]
 
 
 def judgements(first, last, is_open):

@@ -1,9 +1,9 @@
 // Frames of receivers, each at a place that its number determines, and looks from one receiver, each at a satellite and over a
 // mask that its number determines.
 
-ghost use Rattle.std.specs.Prelude.{pos, neg_ℤ, ◌+◌, ◌^◌, ◌≤ℤ◌};
+ghost use Rattle.std.specs.Prelude.{pos, neg_ℤ, ◌^◌, ◌≤ℤ◌};
 ghost use Rattle.fix_interval.specs.Ends.{IsInside};
-ghost use Rattle.fix_interval.specs.Intervals.{ends, IsWithin};
+ghost use Rattle.fix_interval.specs.Intervals.{ends};
 ghost use Rattle.fix_interval.specs.Vectors.{vector_ends};
 ghost use Rattle.site_laws.specs.Places.{IsNearEarth, widest_place};
 ghost use Rattle.site_laws.specs.Frames.{IsFrame};

@@ -1,5 +1,5 @@
 -- Vectors and frames that are equal in each part, and the constants of the program.
-use Rattle.std.specs.Prelude.{◌≡◌, ℤ, pos, ◌^◌, ◌*◌, refl}
+use Rattle.std.specs.Prelude.{◌≡◌, pos, refl}
 use Rattle.fix_interval.specs.Ends.{Ends}
 use Rattle.fix_interval.specs.Quotients.{from_ratio_of, outward_of}
 use Rattle.fix_interval.specs.Sums.{sub_of}

@@ -1,7 +1,6 @@
 use Rattle.std.proofs.Common.{ap, pos}
 use Rattle.fix_interval.specs.Intervals.{ends}
 use Rattle.fix_interval.specs.Ranges.{point}
-use Rattle.fix_interval.specs.Vectors.{VectorEnds}
 use Rattle.site_laws.specs.Frames.{east_of}
 use Rattle.wgs_position.proofs.directions.east.Goals as goal
 

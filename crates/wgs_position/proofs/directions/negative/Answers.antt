@@ -1,5 +1,3 @@
-use Rattle.std.proofs.Common.{arith, ap}
-use Rattle.fix_interval.specs.Intervals.{ends}
 use Rattle.fix_interval.specs.Sums.{neg_of}
 use Rattle.wgs_position.proofs.directions.negative.Goals as goal
 

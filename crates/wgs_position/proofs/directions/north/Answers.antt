@@ -1,5 +1,4 @@
 use Rattle.std.proofs.Common.{ap, ◌∙◌, refl}
-use Rattle.fix_interval.specs.Intervals.{ends}
 use Rattle.fix_interval.specs.Sums.{neg_of}
 use Rattle.site_laws.specs.Frames.{north_of}
 use Rattle.wgs_position.proofs.Parts.{same_vector}

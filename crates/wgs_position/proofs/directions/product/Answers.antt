@@ -1,6 +1,4 @@
-use Rattle.std.proofs.Common.{sym, subst}
 use lib.Dec.{lit≤}
-use Rattle.fix_interval.specs.Ends.{IsInside}
 use Rattle.fix_interval.proofs.EndProducts.{mul_isotone}
 use Rattle.fix_interval.specs.Ranges.{full_ends}
 use Rattle.fix_interval.proofs.EndInsides.{inside_trans}

@@ -1,14 +1,13 @@
-use Rattle.std.proofs.Common.{◌≡◌, sym, ◌∙◌, ap, ap₂, subst, ◌^◌, pos}
+use Rattle.std.proofs.Common.{sym, ◌∙◌, ap, ap₂, subst, ◌^◌, pos}
 use lib.Dec.{lit≤}
 use Rattle.fix_interval.specs.Ends.{IsInside}
 use Rattle.fix_interval.specs.Intervals.{ends}
-use Rattle.fix_interval.specs.Products.{mul_wide_of, sqr_of}
-use Rattle.fix_interval.specs.Quotients.{from_ratio_of, outward_of}
+use Rattle.fix_interval.specs.Products.{mul_wide_of}
 use Rattle.fix_interval.specs.Sums.{sub_of}
 use Rattle.fix_interval.specs.Ranges.{full_ends}
-use Rattle.site_laws.specs.Frames.{one_wide, eccentricity_ends, radicand_of, radicand_ends, within}
+use Rattle.site_laws.specs.Frames.{one_wide, radicand_ends, within}
 use Rattle.site_laws.proofs.FrameBounds.{radicand_bounds}
-use Rattle.site_laws.proofs.FrameNarrow.{eccentricity_within, square_within, wide_product}
+use Rattle.site_laws.proofs.FrameNarrow.{square_within, wide_product}
 use Rattle.wgs_position.proofs.Sizes.{product_within, times_within, inside_within}
 use Rattle.wgs_position.proofs.Parts.{eccentricity-is}
 use Rattle.wgs_position.proofs.ellipsoid.radicand.Goals as goal

@@ -1,7 +1,7 @@
-use Rattle.std.proofs.Common.{sym, ◌∙◌, ap, ap₂, subst, refl}
-use Rattle.raim_model.specs.Receiver.{site, ReceiverSolution}
+use Rattle.std.proofs.Common.{sym, ◌∙◌, ap, ap₂, subst}
+use Rattle.raim_model.specs.Receiver.{ReceiverSolution}
 use Rattle.fix_interval.specs.Intervals.{ends}
-use Rattle.site_laws.specs.Frames.{frame_of, frame_at, position_of, east_of, north_of, up_of, SiteLies, FrameInside, widest_frame}
+use Rattle.site_laws.specs.Frames.{frame_of, frame_at, position_of, east_of, north_of, up_of, FrameInside, widest_frame}
 use Rattle.site_laws.proofs.FrameBounds.{frame_isotone, frame_bounds}
 use Rattle.site_laws.proofs.FrameEncloses.{frame_encloses}
 use Rattle.site_laws.proofs.FrameNarrow.{frame_narrow}
