@@ -1,7 +1,6 @@
 -- What a look answers, by its parts, and what follows for the frame of a place.
-use Rattle.std.specs.Prelude.{◌≡◌, ◌⊎◌, ℤ, pos, ◌^◌, ◌≤ℤ◌, true, false, Bool, cond, refl}
-use Rattle.std.proofs.Common.{arith, ap, sym, ◌∙◌, subst}
-use Rattle.std.proofs.lemmas.Int.{ints}
+use Rattle.std.specs.Prelude.{◌≡◌, ◌⊎◌, pos, ◌^◌, ◌≤ℤ◌, true, false, cond}
+use Rattle.std.proofs.Common.{ap, sym, ◌∙◌, subst}
 use Rattle.fractions.specs.Fraction.{ratio, oneᶠ, ◌*ᶠ◌, IsNear}
 use Rattle.raim_model.specs.Level.{Level}
 use Rattle.raim_model.specs.Look.{line_of_sight, is_visible, direction_row}

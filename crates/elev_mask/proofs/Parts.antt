@@ -1,5 +1,5 @@
 -- Vectors and directions that are equal in each part.
-use Rattle.std.specs.Prelude.{◌≡◌, ℕ, List, [], ◌∷◌, length, refl}
+use Rattle.std.specs.Prelude.{◌≡◌, List, [], ◌∷◌, length, refl}
 use Rattle.std.proofs.Common.{arith, get_or}
 use Rattle.fix_interval.specs.declared.Iv.{Iv}
 use Rattle.fix_interval.specs.Ends.{Ends}

@@ -1,5 +1,5 @@
 -- Magnitudes of intervals inside ends.
-use Rattle.std.specs.Prelude.{◌≡◌, ℕ, ℤ, pos, neg_ℤ, ◌*◌, ◌^◌, ◌≤◌, ◌≤ℤ◌}
+use Rattle.std.specs.Prelude.{ℕ, pos, neg_ℤ, ◌*◌, ◌≤◌, ◌≤ℤ◌}
 use Rattle.std.proofs.Common.{arith}
 use Rattle.std.proofs.lemmas.Int.{ints}
 use Rattle.std.proofs.Math.Nat.{mul-le-mul}

@@ -1,8 +1,8 @@
-use Rattle.std.proofs.Common.{◌≡◌, ap, ap₂, sym, ◌∙◌, subst, pos, ◌^◌, ◌≤ℤ◌}
+use Rattle.std.proofs.Common.{ap, ap₂, sym, ◌∙◌, subst, pos, ◌^◌, ◌≤ℤ◌}
 use Rattle.fix_interval.specs.Intervals.{ends}
 use Rattle.fix_interval.specs.Vectors.{VectorInside, vector_ends}
 use Rattle.site_laws.specs.Frames.{widest_frame}
-use Rattle.site_laws.specs.Sights.{line_of, dot_of, shares_of, is_seen, full_vector, IsDirection, visible}
+use Rattle.site_laws.specs.Sights.{line_of, dot_of, shares_of, full_vector, IsDirection, visible}
 use Rattle.site_laws.proofs.LookIsotone.{far_of_seen}
 use Rattle.wgs_position.specs.Frames.{frame_ends}
 use Rattle.elev_mask.specs.Components.{component_ends}
