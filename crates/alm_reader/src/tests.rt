@@ -55,7 +55,10 @@ fn fed(rt: &impl Abort, alloc: Global, span: Span, text: &[u8]) -> Result<Almana
     assert!(rt; 0 <= span.first && span.first < span.end && span.end <= LATEST_MS);
     let mut reader = AlmanacReader::new(alloc, span).map_err(|_| AllocError)?;
     let mut rest = text;
-    while let Some((line, after)) = next_line(rest) {
+    for _ in 0..u64::MAX {
+        let Some((line, after)) = next_line(rest) else {
+            break;
+        };
         let _ = reader.feed_line(line);
         rest = after;
     }
@@ -135,7 +138,10 @@ fn lines_are_fed_to_a_sem_reader(rt: HostRuntime) -> Result<(), Fail> {
     let mut reader = SemReader::new(alloc, FLIGHT).map_err(|_| AllocError)?;
     let mut rest = text.as_bytes();
     let mut lines = 0u64;
-    while let Some((line, after)) = next_line(rest) {
+    for _ in 0..u64::MAX {
+        let Some((line, after)) = next_line(rest) else {
+            break;
+        };
         assert_eq!(rt; reader.feed_line(line), Ok(()));
         lines = lines.saturating_add(1);
         rest = after;
