@@ -7,6 +7,7 @@ use Rattle.std.specs.Int.{int_min, int_max}
 use lib.Signed.{lt_z}
 use Rattle.whole_numbers.specs.Corners.{least_corner, greatest_corner}
 use Rattle.whole_numbers.specs.Rounding.{floor_of, ceil_of}
+use Rattle.whole_numbers.proofs.FourNumbers.{least_least, greatest_greatest}
 use Rattle.whole_numbers.proofs.Products.{least_corner-least, greatest_corner-greatest}
 use Rattle.whole_numbers.proofs.Integers.{≤ℤ_trans}
 use Rattle.whole_numbers.proofs.Divisions.{floor_of_mono, ceil_of_mono, floor_of-at_most-ceil_of}
@@ -19,14 +20,6 @@ use Rattle.fix_interval.specs.Lies.{Lies}
 use Rattle.fix_interval.specs.Products.{mul_wide_of, narrow76_of, mul_of, scale_int_of}
 
 -- ---- mul_wide
--- the least of four numbers is at most each
-least_least : (p q r t : ℤ) → (int_min (int_min p q) (int_min r t) ≤ℤ p) × (int_min (int_min p q) (int_min r t) ≤ℤ q) × (int_min (int_min p q) (int_min r t) ≤ℤ r) × (int_min (int_min p q) (int_min r t) ≤ℤ t)
-least_least p q r t = (omega (arith, ints, clamps), omega (arith, ints, clamps), omega (arith, ints, clamps), omega (arith, ints, clamps))
-
--- the greatest of four numbers is at least each
-greatest_greatest : (p q r t : ℤ) → (p ≤ℤ int_max (int_max p q) (int_max r t)) × (q ≤ℤ int_max (int_max p q) (int_max r t)) × (r ≤ℤ int_max (int_max p q) (int_max r t)) × (t ≤ℤ int_max (int_max p q) (int_max r t))
-greatest_greatest p q r t = (omega (arith, ints, clamps), omega (arith, ints, clamps), omega (arith, ints, clamps), omega (arith, ints, clamps))
-
 -- a number that is at most four is at most their least
 pub least_above : (m p q r t : ℤ) → m ≤ℤ p → m ≤ℤ q → m ≤ℤ r → m ≤ℤ t → m ≤ℤ int_min (int_min p q) (int_min r t)
 least_above m p q r t h i j k = omega (arith, ints, clamps)

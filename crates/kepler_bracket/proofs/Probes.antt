@@ -1,6 +1,6 @@
 -- The tests at the two ends of the bracket, and at neighbours.
 use Rattle.std.specs.Prelude.{◌≡◌, ℤ, pos, ◌^◌, neg_ℤ, ◌+ℤ◌, ◌-ℤ◌, ◌≤ℤ◌, ◌<ℤ◌, Bool, true, false, not, refl}
-use Rattle.std.proofs.Common.{arith, ap, subst}
+use Rattle.std.proofs.Common.{arith, ap}
 use Rattle.std.proofs.lemmas.Int.{ints}
 use Rattle.fix_interval.specs.Ends.{Ends}
 use Rattle.fix_interval.specs.Searches.{IsLastPassing}
@@ -14,15 +14,6 @@ use Rattle.kepler_bracket.specs.Eccentricities.{eccentricity_ends}
 
 pub is_eccentric : (e : EccentricityInTurns) → IsEccentricityInTurns (eccentricity_ends e)
 is_eccentric e = let o = e.ordered in let s = e.small in record { low = omega (arith, ints); ordered = omega (arith, ints); high = omega (arith, ints) }
-
--- a test whose negation is false holds, and one whose negation is true does not
-is_true : (b : Bool) → not b ≡ false → b ≡ true
-is_true true e = refl
-is_true false e = absurd cc
-
-is_false : (b : Bool) → not b ≡ true → b ≡ false
-is_false true e = absurd cc
-is_false false e = refl
 
 pub negated : {b c : Bool} → b ≡ c → not b ≡ not c
 negated e = ap not e
@@ -57,12 +48,7 @@ greatest e p r h = is_greatest _ _ _ _ (below_falls (eccentricity_ends e) p (is_
 
 -- the number after the last that is not certainly at least p is the least that is
 pub least : (e : EccentricityInTurns) (p r : ℤ) → IsLastPassing (λ k. not (is_above (eccentricity_ends e) p k)) (neg_ℤ bracket) bracket r → IsLeast (is_above (eccentricity_ends e) p) (neg_ℤ bracket) bracket (r +ℤ pos 1)
-least e p r h =
-    let l = h.low in
-    let u = h.high in
-    let back : r ≡ (r +ℤ pos 1) -ℤ pos 1 = omega (arith, ints) in
-    is_least _ _ _ _ (above_rises (eccentricity_ends e) p (is_eccentric e))
-    record { low = omega (arith, ints); high = omega (arith, ints); holds = is_true _ h.fails; fails = subst (λ z. is_above (eccentricity_ends e) p z ≡ false) back (is_false _ h.holds) }
+least e p r h = is_least _ _ _ _ (above_rises (eccentricity_ends e) p (is_eccentric e)) h
 
 -- the greatest and the least, a unit outward, are the ends of the anomalies
 pub ends-are : (eps m : Ends) (l h : ℤ) → IsEccentricityInTurns eps → IsWithinHalfTurn m → IsGreatest (is_below eps m.lo) (neg_ℤ bracket) bracket l → IsLeast (is_above eps m.hi) (neg_ℤ bracket) bracket h

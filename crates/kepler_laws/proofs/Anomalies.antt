@@ -1,6 +1,6 @@
 -- The two ends that halving finds: what they are, that they enclose each solution, and that they are isotone.
-use Rattle.std.specs.Prelude.{◌≡◌, ℤ, pos, ◌^◌, ◌*◌, refl, ◌+ℤ◌, ◌-ℤ◌, neg_ℤ, ◌≤ℤ◌, ◌<ℤ◌, Bool, true, false, [], ◌∷◌}
-use Rattle.std.proofs.Common.{arith}
+use Rattle.std.specs.Prelude.{◌≡◌, ℤ, pos, ◌^◌, ◌*◌, refl, ◌+ℤ◌, ◌-ℤ◌, neg_ℤ, ◌≤ℤ◌, ◌<ℤ◌, Bool, true, false, not, [], ◌∷◌}
+use Rattle.std.proofs.Common.{arith, ap}
 use Rattle.std.proofs.lemmas.Int.{ints}
 use Rattle.std.proofs.lemmas.Nat.{pow_pos}
 use lib.Dec.{lit≤}
@@ -19,8 +19,8 @@ use Rattle.fix_interval.proofs.EndSums.{sub_isotone}
 use Rattle.series_laws.proofs.Pairs.{has_pair}
 use Rattle.trig_laws.proofs.Close.{unit}
 use Rattle.trig_laws.proofs.Encloses.{sin_cos_isotone}
-use Rattle.kepler_laws.specs.Anomalies.{mean_of, is_below, is_above, lower_end, upper_end, bracket, anomalies_of, IsGreatest, IsLeast, IsEccentricityInTurns, IsWithinHalfTurn}
-use Rattle.kepler_laws.proofs.Halvings.{lower_last, upper_first, is_greatest, is_least}
+use Rattle.kepler_laws.specs.Anomalies.{mean_of, is_below, is_above, last_below, first_above, bracket, anomalies_of, IsGreatest, IsLeast, IsEccentricityInTurns, IsWithinHalfTurn}
+use Rattle.kepler_laws.proofs.Halvings.{lower_last, is_greatest, is_least}
 use Rattle.kepler_laws.proofs.Rises.{IsEccentricity, rises, mean_encloses, below_solutions, above_solutions, gap52}
 use Rattle.kepler_laws.proofs.Rising.{below_falls, above_rises, mean_near}
 
@@ -50,7 +50,7 @@ pub bracket_size : bracket ≤ℤ (neg_ℤ bracket +ℤ pos (2 ^ 40))
 bracket_size = omega (arith, ints)
 
 -- a unit inside the lower end is the greatest number whose mean anomaly is certainly at most m
-pub lower_is : (eps m : Ends) → IsEccentricityInTurns eps → IsWithinHalfTurn m → IsGreatest (is_below eps m.lo) (neg_ℤ bracket) bracket (lower_end (is_below eps m.lo) 40 (neg_ℤ bracket) bracket)
+pub lower_is : (eps m : Ends) → IsEccentricityInTurns eps → IsWithinHalfTurn m → IsGreatest (is_below eps m.lo) (neg_ℤ bracket) bracket (last_below eps m.lo)
 lower_is eps m i h =
     let a = mean_near eps (neg_ℤ bracket) i in
     let b = mean_near eps bracket i in
@@ -62,7 +62,7 @@ lower_is eps m i h =
     is_greatest _ _ _ _ (below_falls eps m.lo i) (lower_last (is_below eps m.lo) 40 (neg_ℤ bracket) bracket (passes _ _ first) (fails _ _ last) bracket_order bracket_size)
 
 -- a unit inside the upper end is the least number whose mean anomaly is certainly at least m
-pub upper_is : (eps m : Ends) → IsEccentricityInTurns eps → IsWithinHalfTurn m → IsLeast (is_above eps m.hi) (neg_ℤ bracket) bracket (upper_end (is_above eps m.hi) 40 (neg_ℤ bracket) bracket)
+pub upper_is : (eps m : Ends) → IsEccentricityInTurns eps → IsWithinHalfTurn m → IsLeast (is_above eps m.hi) (neg_ℤ bracket) bracket (first_above eps m.hi)
 upper_is eps m i h =
     let a = mean_near eps (neg_ℤ bracket) i in
     let b = mean_near eps bracket i in
@@ -71,7 +71,7 @@ upper_is eps m i h =
     let hh = h.high in
     let first : (mean_of eps (neg_ℤ bracket)).lo <ℤ m.hi = omega (arith, ints, a.high, a.ordered) in
     let last : m.hi ≤ℤ (mean_of eps bracket).lo = omega (arith, ints, b.low) in
-    is_least _ _ _ _ (above_rises eps m.hi i) (upper_first (is_above eps m.hi) 40 (neg_ℤ bracket) bracket (fails _ _ first) (passes _ _ last) bracket_order bracket_size)
+    is_least _ _ _ _ (above_rises eps m.hi i) (lower_last (λ k. not (is_above eps m.hi k)) 40 (neg_ℤ bracket) bracket (ap not (fails _ _ first)) (ap not (passes _ _ last)) bracket_order bracket_size)
 
 -- ---- they enclose
 pub eccentricity : (eps : Ends) (e : Fraction) → IsEccentricityInTurns eps → Lies eps 38 e → IsEccentricity e
@@ -151,8 +151,8 @@ anomalies_isotone {eps} {m} {r} q f c i h p k =
     let high' = upper_is f c i h in
     let ml = mean_isotone eps f _ p in
     let mh = mean_isotone eps f _ p in
-    let below : (mean_of eps (lower_end (is_below f c.lo) 40 (neg_ℤ bracket) bracket)).hi ≤ℤ m.lo = both ml.high (passed _ _ low'.holds) k.low in
-    let above : m.hi ≤ℤ (mean_of eps (upper_end (is_above f c.hi) 40 (neg_ℤ bracket) bracket)).lo = both k.high (passed _ _ high'.holds) mh.low in
+    let below : (mean_of eps (last_below f c.lo)).hi ≤ℤ m.lo = both ml.high (passed _ _ low'.holds) k.low in
+    let above : m.hi ≤ℤ (mean_of eps (first_above f c.hi)).lo = both k.high (passed _ _ high'.holds) mh.low in
     let l = low.greatest _ low'.high (passes _ _ below) in
     let u = high.least _ high'.low (passes _ _ above) in
     let o = ends_order eps m.lo _ _ j (passed _ _ low.holds) (both k.ordered (passed _ _ high.holds) (self _)) in

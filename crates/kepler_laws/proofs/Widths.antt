@@ -1,5 +1,5 @@
 -- How wide the sine and cosine of the eccentric anomaly are.
-use Rattle.std.specs.Prelude.{◌≡◌, ℤ, pos, ◌^◌, refl, ◌+ℤ◌, ◌-ℤ◌, ◌*ℤ◌, neg_ℤ, ◌≤ℤ◌, ◌<ℤ◌, Bool, true, false, cond, [], ◌∷◌}
+use Rattle.std.specs.Prelude.{◌≡◌, ℤ, pos, ◌^◌, refl, ◌+ℤ◌, ◌-ℤ◌, ◌*ℤ◌, neg_ℤ, ◌≤ℤ◌, ◌<ℤ◌, Bool, true, false, cond, not, [], ◌∷◌}
 use Rattle.std.proofs.Common.{arith, ap, ap₂, sym, ◌∙◌, subst}
 use Rattle.std.proofs.lemmas.Int.{ints, clamps}
 use Rattle.std.proofs.lemmas.Nat.{pow_pos}
@@ -29,10 +29,10 @@ use Rattle.trig_laws.proofs.Encloses.{sin_cos_isotone, full_lies}
 use Rattle.trig_laws.proofs.Narrow.{sin_cos_narrow}
 use Rattle.trig_laws.proofs.Periods.{turned_on, sin_cos_on}
 use Rattle.trig_laws.proofs.Points.{point_close}
-use Rattle.kepler_laws.specs.Anomalies.{mean_of, is_below, is_above, lower_end, upper_end, bracket, anomalies_of, IsGreatest, IsLeast, IsEccentricityInTurns, IsWithinHalfTurn}
+use Rattle.kepler_laws.specs.Anomalies.{mean_of, is_below, is_above, lower_end, last_below, bracket, anomalies_of, IsGreatest, IsLeast, IsEccentricityInTurns, IsWithinHalfTurn}
 use Rattle.kepler_laws.specs.EccentricSine.{nearest_turn_of, wrapped_of, wrap_pair, ecc_sin_cos_of}
 use Rattle.kepler_laws.proofs.Anomalies.{fails, passed, passes, bracket_order, bracket_size, eccentricity, lower_is, upper_is}
-use Rattle.kepler_laws.proofs.Halvings.{lower_last, upper_first}
+use Rattle.kepler_laws.proofs.Halvings.{lower_last, unheld}
 use Rattle.kepler_laws.proofs.Rises.{IsEccentricity, rises, gap52}
 use Rattle.kepler_laws.proofs.Rising.{sine_ordered, mean_near}
 use Rattle.kepler_laws.proofs.Wraps.{wrap_mono, wrap_spans, spans_wrap, wrapped_half, anomalies_ordered, wraps_of, last_wrap}
@@ -137,7 +137,7 @@ lower_next eps m i h =
     let first : (mean_of eps (neg_ℤ bracket)).hi ≤ℤ m.lo = omega (arith, ints, a.high) in
     let last : m.lo <ℤ (mean_of eps bracket).hi = omega (arith, ints, b.low, b.ordered) in
     let r = lower_last (is_below eps m.lo) 40 (neg_ℤ bracket) bracket (passes _ _ first) (fails _ _ last) bracket_order bracket_size in
-    subst (λ z. m.lo <ℤ (mean_of eps z).hi) (one_on (lower_end (is_below eps m.lo) 40 (neg_ℤ bracket) bracket)) (failed _ _ r.fails)
+    subst (λ z. m.lo <ℤ (mean_of eps z).hi) (one_on (last_below eps m.lo)) (failed _ _ r.fails)
   where
     one_on : (z : ℤ) → z +ℤ pos 1 ≡ (z -ℤ pos 1) +ℤ pos 2
     one_on z = omega (arith, ints)
@@ -152,10 +152,10 @@ upper_before eps m i h =
     let hh = h.high in
     let first : (mean_of eps (neg_ℤ bracket)).lo <ℤ m.hi = omega (arith, ints, a.high, a.ordered) in
     let last : m.hi ≤ℤ (mean_of eps bracket).lo = omega (arith, ints, b.low) in
-    let r = upper_first (is_above eps m.hi) 40 (neg_ℤ bracket) bracket (fails _ _ first) (passes _ _ last) bracket_order bracket_size in
-    subst (λ z. (mean_of eps z).lo <ℤ m.hi) (one_back (upper_end (is_above eps m.hi) 40 (neg_ℤ bracket) bracket)) (failed _ _ r.fails)
+    let r = lower_last (λ k. not (is_above eps m.hi k)) 40 (neg_ℤ bracket) bracket (ap not (fails _ _ first)) (ap not (passes _ _ last)) bracket_order bracket_size in
+    subst (λ z. (mean_of eps z).lo <ℤ m.hi) (one_back (lower_end (λ k. not (is_above eps m.hi k)) 40 (neg_ℤ bracket) bracket)) (failed _ _ (unheld _ r.holds))
   where
-    one_back : (z : ℤ) → z -ℤ pos 1 ≡ (z +ℤ pos 1) -ℤ pos 2
+    one_back : (z : ℤ) → z ≡ ((z +ℤ pos 1) +ℤ pos 1) -ℤ pos 2
     one_back z = omega (arith, ints)
 
 -- ---- the mean anomaly w turns on

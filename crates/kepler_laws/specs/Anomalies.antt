@@ -1,6 +1,6 @@
 -- Eccentric anomalies over intervals, in units of 2^-38 of a turn: where E - eps sin E, the mean anomaly, passes that
 -- which is given. eps is the eccentricity over tau.
-use Rattle.std.specs.Prelude.{ℕ, zero, suc, ℤ, pos, ◌^◌, ◌*◌, ◌+ℤ◌, ◌-ℤ◌, ◌≤ℤ◌, ◌<ℤ◌, neg_ℤ, cond, Bool, IsTrue}
+use Rattle.std.specs.Prelude.{ℕ, zero, suc, ℤ, pos, ◌^◌, ◌*◌, ◌+ℤ◌, ◌-ℤ◌, ◌≤ℤ◌, ◌<ℤ◌, neg_ℤ, cond, not, Bool, IsTrue}
 use lib.Signed.{le_z}
 use Rattle.whole_numbers.specs.Rounding.{floor_of}
 use Rattle.fix_interval.specs.Ends.{Ends}
@@ -44,17 +44,16 @@ unfoldable pub lower_end : (ℤ → Bool) → ℕ → ℤ → ℤ → ℤ
 lower_end f zero a b = a
 lower_end f (suc n) a b = lower_end f n (cond (f (middle a b)) (middle a b) a) (cond (f (middle a b)) b (middle a b))
 
--- and where f holds at b and not at a: the upper end
-unfoldable pub upper_end : (ℤ → Bool) → ℕ → ℤ → ℤ → ℤ
-upper_end f zero a b = b
-upper_end f (suc n) a b = upper_end f n (cond (f (middle a b)) a (middle a b)) (cond (f (middle a b)) (middle a b) b)
+-- the last eccentric anomaly whose mean anomaly is certainly at most m, and the first whose is certainly at least m
+abbrev pub last_below : Ends → ℤ → ℤ
+last_below eps m = lower_end (is_below eps m) 40 (neg_ℤ bracket) bracket
+
+abbrev pub first_above : Ends → ℤ → ℤ
+first_above eps m = lower_end (λ k. not (is_above eps m k)) 40 (neg_ℤ bracket) bracket +ℤ pos 1
 
 -- the eccentric anomalies of mean anomalies of at most half a turn either way, a unit outward
 unfoldable pub anomalies_of : Ends → Ends → Ends
-anomalies_of eps m = record {
-  lo = lower_end (is_below eps m.lo) 40 (neg_ℤ bracket) bracket -ℤ pos 1;
-  hi = upper_end (is_above eps m.hi) 40 (neg_ℤ bracket) bracket +ℤ pos 1;
-}
+anomalies_of eps m = record { lo = last_below eps m.lo -ℤ pos 1; hi = first_above eps m.hi +ℤ pos 1 }
 
 -- r is the greatest number from a on and below b at which f holds
 pub record IsGreatest (f : ℤ → Bool) (a b r : ℤ) : Type 0 where

@@ -2,6 +2,7 @@
 
 ghost use Rattle.std.specs.Prelude.{◌≡◌, pos, neg_ℤ, ◌+◌, ◌^◌, ◌+ℤ◌, ◌-ℤ◌, ◌*ℤ◌, ◌≤ℤ◌, ◌<ℤ◌, ℤ, ◌<◌, length, slice_index_or};
 ghost use Rattle.fractions.specs.Fraction.{whole};
+ghost use Rattle.raim_model.specs.Constants.{day_ms};
 ghost use Rattle.raim_model.specs.declared.Waypoint.{Waypoint};
 ghost use Rattle.raim_model.specs.Ranges.{IsDecimalBetween};
 ghost use Rattle.raim_model.specs.Receiver.{OnLeg, place_on};
@@ -48,7 +49,7 @@ fn height(metres: &Dec) -> Iv
 /// The milliseconds from `from` to `to`.
 fn apart(from: i64, to: i64) -> i64
     requires ordered { from ≤ℤ to }
-    requires short { to ≤ℤ (from +ℤ pos 86400000) }
+    requires short { to ≤ℤ (from +ℤ pos day_ms) }
     ensures { result ≡ to -ℤ from }
 {
     to - from
@@ -58,7 +59,7 @@ fn apart(from: i64, to: i64) -> i64
 fn times(a: Iv, k: i64) -> Iv
     requires small { IsWithin a (2 ^ 39) }
     requires not_negative { pos 0 ≤ℤ k }
-    requires short { k ≤ℤ pos 86400000 }
+    requires short { k ≤ℤ pos day_ms }
     ensures exact { ends result ≡ times_of (ends a) k }
     ensures bound { IsWithin result (2 ^ 66) }
 {

@@ -8,10 +8,10 @@ ghost use Rattle.raim_base.specs.Desks.{KeepsOthers};
 ghost use Rattle.raim_base.specs.Sizes.{longest_file};
 ghost use Rattle.raim_base.specs.Feeding.{Follows, Feeds, FeedsFront, IsFedFront};
 
-use crate::{Desk, LONGEST_FILE, ReadStop};
+use crate::{Desk, ReadStop};
 use raim_model::FileNo;
 use std::alloc::{AllocError, Global};
-use text_lines::{split_at_feed, without_carriage_return};
+use text_lines::{LONGEST_FILE, split_at_feed, without_carriage_return};
 
 /// Takes lines one at a time. No line takes memory.
 pub trait LineTaker {

@@ -10,6 +10,7 @@ use std::process::{Abort, ExitCode};
 use std::sync::ledger::{Blank, Ledger};
 use std::test::Fail;
 use step_counter::Steps;
+use text_lines::LONGEST_FILE;
 
 const LINE: &str = "1414022400000 1414022401000 Unavailable Few\n";
 
@@ -254,10 +255,10 @@ fn padded(alloc: Global, length: usize) -> Result<Vec<u8>, Fail> {
 #[test]
 fn a_file_of_one_byte_too_many_is_refused(rt: HostRuntime) -> Result<(), Fail> {
     let alloc = rt.alloc();
-    let longest = padded(alloc, 1_048_576)?;
+    let longest = padded(alloc, LONGEST_FILE)?;
     let left = run_with(alloc, &WORDS, &longest, SURE, SURE)?;
     assert_eq!(rt; left.status, Status::Done);
-    let longer = padded(alloc, 1_048_577)?;
+    let longer = padded(alloc, LONGEST_FILE + 1)?;
     let note = "raim: almanac line 0: FileTooLong\n";
     expect_refused(&rt, alloc, &longer, TextWhy::FileTooLong, note)
 }

@@ -5,6 +5,7 @@ use Rattle.std.proofs.lemmas.Int.{ints, clamps}
 use Rattle.std.specs.Int.{int_min, int_max}
 use lib.Signed.{le_z}
 use Rattle.whole_numbers.specs.Rounding.{floor_of, ceil_of}
+use Rattle.whole_numbers.proofs.FourNumbers.{first_least, second_least, third_greatest, fourth_greatest}
 use Rattle.whole_numbers.proofs.Products.{*ℤ_mono_left, *ℤ_mono_right, *ℤ_anti_right}
 use Rattle.fix_interval.specs.Ends.{Ends, IsInside}
 use Rattle.fix_interval.specs.Bounds.{clamp_of, widen_of}
@@ -16,18 +17,6 @@ use Rattle.trig_laws.proofs.Chains.{nested-chains, nest_end-order}
 use Rattle.trig_laws.proofs.Isotones.{radians_isotone, sine_positive, cosine_positive}
 
 -- ---- the product with a natural range
-first : (p q r s : ℤ) → p ≤ℤ q → p ≤ℤ r → p ≤ℤ s → int_min (int_min p q) (int_min r s) ≡ p
-first p q r s a b c = omega (arith, ints, clamps)
-
-second : (p q r s : ℤ) → q ≤ℤ p → q ≤ℤ r → q ≤ℤ s → int_min (int_min p q) (int_min r s) ≡ q
-second p q r s a b c = omega (arith, ints, clamps)
-
-third : (p q r s : ℤ) → p ≤ℤ r → q ≤ℤ r → s ≤ℤ r → int_max (int_max p q) (int_max r s) ≡ r
-third p q r s a b c = omega (arith, ints, clamps)
-
-fourth : (p q r s : ℤ) → p ≤ℤ s → q ≤ℤ s → r ≤ℤ s → int_max (int_max p q) (int_max r s) ≡ s
-fourth p q r s a b c = omega (arith, ints, clamps)
-
 through : {x y z : ℤ} → x ≤ℤ y → y ≤ℤ z → x ≤ℤ z
 through h k = omega (arith, ints)
 
@@ -47,13 +36,13 @@ mul-low x l h o k = ap (λ z. floor_of z (2 ^ 38)) (by_sign (le_z (pos 0) x.lo) 
         let a = *ℤ_mono_right (pos l) (pos h) x.lo n (ordered l h k) in
         let b = *ℤ_mono_left x.lo x.hi (pos l) (natural l) o in
         let d = *ℤ_mono_left x.lo x.hi (pos h) (natural h) o in
-        first _ _ _ _ a b (through a d)
+        first_least _ _ _ _ a b (through a d)
     by_sign false e =
         let n : x.lo ≤ℤ pos 0 = omega (arith, ints) in
         let a = *ℤ_anti_right (pos l) (pos h) x.lo n (ordered l h k) in
         let b = *ℤ_mono_left x.lo x.hi (pos l) (natural l) o in
         let d = *ℤ_mono_left x.lo x.hi (pos h) (natural h) o in
-        second _ _ _ _ a (through a b) d
+        second_least _ _ _ _ a (through a b) d
 
 pub mul-high : (x : Ends) (l h : ℕ) → x.lo ≤ℤ x.hi → l ≤ h → (mul_of x (from_to l h)).hi ≡ ceil_of (x.hi *ℤ pos (cond (le_z (pos 0) x.hi) h l)) (2 ^ 38)
 unfolding mul_of mul_wide_of narrow76_of
@@ -65,13 +54,13 @@ mul-high x l h o k = ap (λ z. ceil_of z (2 ^ 38)) (by_sign (le_z (pos 0) x.hi) 
         let a = *ℤ_mono_right (pos l) (pos h) x.hi n (ordered l h k) in
         let b = *ℤ_mono_left x.lo x.hi (pos l) (natural l) o in
         let d = *ℤ_mono_left x.lo x.hi (pos h) (natural h) o in
-        fourth _ _ _ _ (through b a) d a
+        fourth_greatest _ _ _ _ (through b a) d a
     by_sign false e =
         let n : x.hi ≤ℤ pos 0 = omega (arith, ints) in
         let a = *ℤ_anti_right (pos l) (pos h) x.hi n (ordered l h k) in
         let b = *ℤ_mono_left x.lo x.hi (pos l) (natural l) o in
         let d = *ℤ_mono_left x.lo x.hi (pos h) (natural h) o in
-        third _ _ _ _ b (through d a) a
+        third_greatest _ _ _ _ b (through d a) a
 
 -- ---- the sine and the cosine, where the square lies from l to h
 pub sine-ends : (r : Ends) (l h : ℕ) → IsInside r eighth_ends → l ≤ h → h ≤ 2 ^ 38 → sqr_of (radians_of r) ≡ from_to l h → sine_of r ≡ sine_ends (radians_of r) l h

@@ -3,6 +3,7 @@ pub mod Ring
 pub mod Quoting
 pub mod Quote
 pub mod Certificates
+pub mod FourNumbers
 pub mod Products
 pub mod Divisions
 pub mod Roots

@@ -5,6 +5,7 @@ use Rattle.std.specs.Int.{int_min, int_max}
 use Rattle.std.proofs.lemmas.Int.{ints, clamps}
 use Rattle.whole_numbers.specs.Algebra.{IsCompatibleOrder}
 use Rattle.whole_numbers.specs.Corners.{least_corner, greatest_corner}
+use Rattle.whole_numbers.proofs.FourNumbers.{least_least, greatest_greatest}
 use Rattle.whole_numbers.proofs.Integers.{≤ℤ_trans, ≤ℤ_total}
 use Rattle.whole_numbers.proofs.Quote.{quote}
 use Rattle.whole_numbers.proofs.Certificates.{at_most, not_negative}
@@ -59,14 +60,6 @@ corners_above a b c d x y m ax xb cy yd ac ad bc bd = ⊎_elim up_side down_side
     down_side p = ≤ℤ_trans _ (b *ℤ y) _
         (⊎_elim (λ q. ≤ℤ_trans _ (b *ℤ c) _ bc (*ℤ_mono_right c y b q cy)) (λ q. ≤ℤ_trans _ (b *ℤ d) _ bd (*ℤ_anti_right y d b q yd)) (≤ℤ_total (pos 0) b))
         (*ℤ_anti_left x b y p xb)
-
--- the least of four numbers is at most each
-least_least : (p q r s : ℤ) → (int_min (int_min p q) (int_min r s) ≤ℤ p) × (int_min (int_min p q) (int_min r s) ≤ℤ q) × (int_min (int_min p q) (int_min r s) ≤ℤ r) × (int_min (int_min p q) (int_min r s) ≤ℤ s)
-least_least p q r s = (omega (arith, ints, clamps), omega (arith, ints, clamps), omega (arith, ints, clamps), omega (arith, ints, clamps))
-
--- the greatest of four numbers is at least each
-greatest_greatest : (p q r s : ℤ) → (p ≤ℤ int_max (int_max p q) (int_max r s)) × (q ≤ℤ int_max (int_max p q) (int_max r s)) × (r ≤ℤ int_max (int_max p q) (int_max r s)) × (s ≤ℤ int_max (int_max p q) (int_max r s))
-greatest_greatest p q r s = (omega (arith, ints, clamps), omega (arith, ints, clamps), omega (arith, ints, clamps), omega (arith, ints, clamps))
 
 -- a product over a box is at least the least corner
 pub least_corner-least : (a b c d x y : ℤ) → a ≤ℤ x → x ≤ℤ b → c ≤ℤ y → y ≤ℤ d → least_corner a b c d ≤ℤ (x *ℤ y)
