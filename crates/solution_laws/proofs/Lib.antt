@@ -1,3 +1,6 @@
 pub mod Nodes
 pub mod Turns
 pub mod Sites
+pub mod Biases
+pub mod Usables
+pub mod Parts
