@@ -7,6 +7,7 @@
 #[cfg(test)]
 mod cases;
 mod exclusion;
+mod pairs;
 #[cfg(test)]
 mod tests;
 

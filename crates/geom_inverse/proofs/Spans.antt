@@ -20,9 +20,11 @@ use Rattle.fix_interval.proofs.EndInsides.{inside_trans}
 use Rattle.geom_laws.proofs.Rows.{weight_within}
 use Rattle.geom_laws.proofs.Bounds.{add_within}
 use Rattle.fix_interval.specs.declared.interval_64.Iv64.{Iv64}
+use Rattle.geom_inverse.specs.declared.entries.Entries.{Entries}
 use Rattle.geom_inverse.specs.declared.row.Row.{Row}
 use Rattle.geom_inverse.specs.declared.sym4.Sym4.{Sym4}
 use Rattle.geom_inverse.proofs.Squares.{square_mixed}
+use Rattle.geom_inverse.specs.Lines.{entries_ends}
 use Rattle.geom_inverse.specs.Views.{row_ends, rows_ends, sym_ends, IsSymWithin}
 
 -- ---- between the words of contracts and of the laws
@@ -100,6 +102,27 @@ sym_inside {h} {m} v = record { entries = at }
     at Clock Up = iv_inside v.a34
     at Clock Clock = iv_inside v.a44
 
+pub entries_within : (h : Entries) → SymWithin (entries_ends h) (2 ^ 43 + 2 ^ 7)
+entries_within h = record { entries = at }
+  where
+    at : (j k : Axis) → IsInside (entry (entries_ends h) j k) (entry (all_ends (around (2 ^ 43 + 2 ^ 7))) j k)
+    at East East = short_inside h.a11_small
+    at East North = short_inside h.a12_small
+    at East Up = short_inside h.a13_small
+    at East Clock = short_inside h.a14_small
+    at North East = short_inside h.a12_small
+    at North North = short_inside h.a22_small
+    at North Up = short_inside h.a23_small
+    at North Clock = short_inside h.a24_small
+    at Up East = short_inside h.a13_small
+    at Up North = short_inside h.a23_small
+    at Up Up = short_inside h.a33_small
+    at Up Clock = short_inside h.a34_small
+    at Clock East = short_inside h.a14_small
+    at Clock North = short_inside h.a24_small
+    at Clock Up = short_inside h.a34_small
+    at Clock Clock = short_inside h.a44_small
+
 pub inside_sym : {h : Sym4} {m : ℕ} → SymWithin (sym_ends h) m → IsSymWithin h m
 inside_sym {h} {m} v = record {
   a11 = inside_iv (v.entries East East);
@@ -146,9 +169,9 @@ pub row_within : (r : Row) → RowWithin (row_ends r) (2 ^ 38 + 1)
 row_within r = record { parts = at }
   where
     at : (j : Axis) → IsInside (part (row_ends r) j) (part record { e = around (2 ^ 38 + 1); n = around (2 ^ 38 + 1); u = around (2 ^ 38 + 1); k = around (2 ^ 38 + 1) } j)
-    at East = iv_inside r.e_small
-    at North = iv_inside r.n_small
-    at Up = iv_inside r.u_small
+    at East = short_inside r.e_small
+    at North = short_inside r.n_small
+    at Up = short_inside r.u_small
     at Clock = weight_within record { low = r.k_not_negative; ordered = r.k.ordered; high = r.k_small }
 
 pub rows_within : (rows : List Row) → All (λ r. RowWithin r (2 ^ 38 + 1)) (rows_ends rows)

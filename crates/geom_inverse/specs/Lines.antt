@@ -5,9 +5,24 @@ use Rattle.geom_laws.specs.Rows.{RowEnds}
 use Rattle.geom_laws.specs.Symmetric.{SymEnds, entry}
 use Rattle.geom_laws.specs.Determinant.{MinorEnds, crossed_of}
 use Rattle.geom_laws.specs.Adjugate.{along_of}
+use Rattle.geom_inverse.specs.declared.entries.Entries.{Entries}
 use Rattle.geom_inverse.specs.declared.line.Line.{Line}
 use Rattle.geom_inverse.specs.declared.minor.Minors.{Minors}
 use Rattle.fix_interval.specs.Intervals.{ends_64}
+
+abbrev pub entries_ends : Entries → SymEnds
+entries_ends h = record {
+  a11 = ends_64 h.a11;
+  a12 = ends_64 h.a12;
+  a13 = ends_64 h.a13;
+  a14 = ends_64 h.a14;
+  a22 = ends_64 h.a22;
+  a23 = ends_64 h.a23;
+  a24 = ends_64 h.a24;
+  a33 = ends_64 h.a33;
+  a34 = ends_64 h.a34;
+  a44 = ends_64 h.a44;
+}
 
 abbrev pub line_ends : Line → RowEnds
 line_ends l = record { e = ends_64 l.e; n = ends_64 l.n; u = ends_64 l.u; k = ends_64 l.k }

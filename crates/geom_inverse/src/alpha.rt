@@ -10,11 +10,11 @@ ghost use Rattle.geom_laws.specs.Symmetric.{SymEnds, SymLies, SymInside};
 ghost use Rattle.geom_laws.specs.Adjugate.{inner_of, alpha_of};
 ghost use Rattle.geom_inverse.specs.Views.{row_ends, sym_ends, IsSymWithin};
 
-use crate::products::product;
+use crate::products::{narrow76, product};
 use crate::row::Row;
 use crate::sym4::Sym4;
 use crate::wide_sums::plus;
-use fix_interval::{Iv, narrow76};
+use fix_interval::Iv;
 
 /// The sum of the products of four entries with the parts of a row.
 #[inline(always)]
@@ -26,11 +26,11 @@ fn inner(a: Iv, b: Iv, c: Iv, d: Iv, row: &Row) -> Iv
     ensures { ends result ≡ inner_of (ends a) (ends b) (ends c) (ends d) (row_ends row.now) }
 {
     let two = plus(
-        product(a.in_64_bits(), row.e.in_64_bits()),
-        product(b.in_64_bits(), row.n.in_64_bits()),
+        product(a.in_64_bits(), row.e),
+        product(b.in_64_bits(), row.n),
     );
-    let three = plus(two, product(c.in_64_bits(), row.u.in_64_bits()));
-    narrow76(plus(three, product(d.in_64_bits(), row.k.in_64_bits())))
+    let three = plus(two, product(c.in_64_bits(), row.u));
+    narrow76(plus(three, product(d.in_64_bits(), row.k)))
 }
 
 /// The change to the east, times the determinant.

@@ -59,7 +59,14 @@ fn row_of(line: &str) -> Option<Row> {
     let n = part(words.next()?, words.next()?)?;
     let u = part(words.next()?, words.next()?)?;
     let k = weight(words.next()?, words.next()?)?;
-    Some(Row { prn: 1, e, n, u, k })
+    let prn = 1;
+    Some(Row {
+        prn,
+        e: e.in_64_bits(),
+        n: n.in_64_bits(),
+        u: u.in_64_bits(),
+        k: k.in_64_bits(),
+    })
 }
 
 fn interval_text(alloc: Global, a: Iv) -> Result<String, Fail> {

@@ -13,10 +13,10 @@ ghost use Rattle.geom_inverse.specs.Views.{sym_ends, IsSymWithin};
 use crate::line::Line;
 use crate::minor::Minors;
 use crate::minors::{line, minors};
-use crate::products::product;
+use crate::products::{narrow76, product};
 use crate::sym4::Sym4;
 use crate::wide_sums::{less, plus};
-use fix_interval::{Iv, narrow76};
+use fix_interval::Iv;
 
 /// Nothing, at any scale.
 const ZERO: Iv = Iv { lo: 0, hi: 0 };

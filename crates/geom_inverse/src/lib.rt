@@ -9,6 +9,7 @@ mod alpha;
 mod cases;
 mod cofactors;
 mod determinant;
+mod entries;
 mod line;
 mod minor;
 mod minors;
@@ -23,7 +24,8 @@ mod wide_sums;
 
 pub use alpha::{alpha_east, alpha_north, alpha_up};
 pub use cofactors::adjugate;
-pub use determinant::det;
+pub use determinant::{det, det_64, det_without};
 pub use normal::{gram, gram_less, gram_of_sums, gram_without, sums, sums_less};
+pub use products::{narrow76, wide_product, wide_square};
 pub use row::Row;
 pub use sym4::Sym4;

@@ -56,10 +56,28 @@ pub(crate) fn minors(p: Line, q: Line) -> Minors
     }
 }
 
+/// The minors of two rows of which the first is known.
+#[inline(always)]
+pub(crate) fn minors_from(m12: Iv64, p: Line, q: Line) -> Minors
+    requires small { IsWithin64 m12 (2 ^ 49 + 2 ^ 16) }
+    requires first { ends_64 m12 ≡ crossed_of (ends_64 p.e) (ends_64 q.n) (ends_64 p.n) (ends_64 q.e) }
+    ensures { minor_ends result ≡ line_minors (line_ends p) (line_ends q) }
+{
+    Minors {
+        m12,
+        m13: crossed(p.e, q.u, p.u, q.e),
+        m14: crossed(p.e, q.k, p.k, q.e),
+        m23: crossed(p.n, q.u, p.u, q.n),
+        m24: crossed(p.n, q.k, p.k, q.n),
+        m34: crossed(p.u, q.k, p.k, q.u),
+    }
+}
+
 /// The sum of the products of complementary minors with their signs, in units of 2^-76.
 #[inline(always)]
 pub(crate) fn laplace(s: Minors, c: Minors) -> Iv
-    ensures { ends result ≡ laplace_of (minor_ends s) (minor_ends c) }
+    ensures exact { ends result ≡ laplace_of (minor_ends s) (minor_ends c) }
+    ensures small { IsWithin result (2 ^ 120) }
 {
     let two = less(product(s.m12, c.m34), product(s.m13, c.m24));
     let three = plus(two, product(s.m14, c.m23));

@@ -7,11 +7,13 @@ ghost use Rattle.fix_interval.specs.Sums.{add_of};
 ghost use Rattle.fix_interval.specs.Intervals.{ends, IsWithin};
 ghost use Rattle.geometry_laws.specs.Without.{without};
 ghost use Rattle.geom_laws.specs.Rows.{RowEnds, RowsLie, RowsInside};
-ghost use Rattle.geom_laws.specs.Symmetric.{SymLies, SymInside};
+ghost use Rattle.geom_laws.specs.Symmetric.{SymLies, SymInside, SymWithin};
 ghost use Rattle.geom_laws.specs.Gram.{product_of, tabulated, sums_of, rounded_of, gram_of, gram_without_of};
+ghost use Rattle.geom_inverse.specs.Lines.{entries_ends};
 ghost use Rattle.geom_inverse.specs.Views.{row_ends, rows_ends, sym_sum, sym_ends, IsSymWithin};
 
-use crate::products::{small_product, square};
+use crate::entries::Entries;
+use crate::products::{narrowed, small_product, square};
 use crate::row::Row;
 use crate::sym4::Sym4;
 use crate::wide_sums::plus;
@@ -40,10 +42,7 @@ fn products(row: &Row) -> Sym4
     ensures exact { sym_ends result ≡ tabulated (product_of (row_ends row.now)) }
     ensures small { IsSymWithin result (2 ^ 88) }
 {
-    let e = row.e.in_64_bits();
-    let n = row.n.in_64_bits();
-    let u = row.u.in_64_bits();
-    let k = row.k.in_64_bits();
+    let Row { e, n, u, k, .. } = *row;
     Sym4 {
         a11: square(e),
         a12: small_product(e, n),
@@ -160,8 +159,9 @@ pub fn gram_without(rows: &[Row], i: usize) -> Sym4
     gram_less(&sums(rows), rows, i)
 }
 
-/// The sums without the row at place `i`, from those of all rows: it takes ten products, whatever the number of rows.
-pub fn sums_less(all: &Sym4, rows: &[Row], i: usize) -> Sym4
+/// The sums of all rows less the products of the row at place `i`.
+#[inline(always)]
+pub(crate) fn difference(all: &Sym4, rows: &[Row], i: usize) -> Sym4
     requires few { length rows.now ≤ 32 }
     requires place { i < length rows.now }
     requires all { sym_ends all.now ≡ sums_of (rows_ends rows.now) }
@@ -180,6 +180,38 @@ pub fn sums_less(all: &Sym4, rows: &[Row], i: usize) -> Sym4
         a33: rest(all.a33, part.a33),
         a34: rest(all.a34, part.a34),
         a44: rest(all.a44, part.a44),
+    }
+}
+
+/// The sums without the row at place `i`, from those of all rows: it takes ten products, whatever the number of rows.
+pub fn sums_less(all: &Sym4, rows: &[Row], i: usize) -> Sym4
+    requires few { length rows.now ≤ 32 }
+    requires place { i < length rows.now }
+    requires all { sym_ends all.now ≡ sums_of (rows_ends rows.now) }
+    ensures exact { sym_ends result ≡ sums_of (without i (rows_ends rows.now)) }
+    ensures small { IsSymWithin result (2 ^ 82) }
+{
+    difference(all, rows, i)
+}
+
+/// Each entry of sums in units of 2^-76 in units of 2^-38, rounded outward.
+#[inline(always)]
+pub(crate) fn entries_of_sums(a: &Sym4) -> Entries
+    requires small { IsSymWithin a.now (2 ^ 82) }
+    requires bound { SymWithin (rounded_of (sym_ends a.now)) (2 ^ 43 + 2 ^ 7) }
+    ensures { entries_ends result ≡ rounded_of (sym_ends a.now) }
+{
+    Entries {
+        a11: narrowed(a.a11),
+        a12: narrowed(a.a12),
+        a13: narrowed(a.a13),
+        a14: narrowed(a.a14),
+        a22: narrowed(a.a22),
+        a23: narrowed(a.a23),
+        a24: narrowed(a.a24),
+        a33: narrowed(a.a33),
+        a34: narrowed(a.a34),
+        a44: narrowed(a.a44),
     }
 }
 

@@ -63,11 +63,8 @@ fn times_mixed(a: Iv64, b: Iv64) -> Iv
 
 /// The product at the sum of the two scales.
 #[inline(always)]
-pub(crate) fn product(a: Iv64, b: Iv64) -> Iv
-    requires a_small { IsWithin64 a (2 ^ 56) }
-    requires b_small { IsWithin64 b (2 ^ 56) }
-    ensures exact { ends result ≡ mul_wide_of (ends_64 a) (ends_64 b) }
-    ensures small { IsWithin result (2 ^ 112) }
+pub fn wide_product(a: Iv64, b: Iv64) -> Iv
+    ensures { ends result ≡ mul_wide_of (ends_64 a) (ends_64 b) }
 {
     if b.lo >= 0 {
         times_not_negative(a, b)
@@ -76,6 +73,17 @@ pub(crate) fn product(a: Iv64, b: Iv64) -> Iv
     } else {
         times_mixed(a, b)
     }
+}
+
+/// The same with a bound.
+#[inline(always)]
+pub(crate) fn product(a: Iv64, b: Iv64) -> Iv
+    requires a_small { IsWithin64 a (2 ^ 56) }
+    requires b_small { IsWithin64 b (2 ^ 56) }
+    ensures exact { ends result ≡ mul_wide_of (ends_64 a) (ends_64 b) }
+    ensures small { IsWithin result (2 ^ 112) }
+{
+    wide_product(a, b)
 }
 
 /// The same with a smaller bound.
@@ -116,10 +124,8 @@ fn mixed_square(a: Iv64) -> Iv
 
 /// The square at twice the scale, whose least is 0 where `a` holds 0.
 #[inline(always)]
-pub(crate) fn square(a: Iv64) -> Iv
-    requires { IsWithin64 a (2 ^ 44) }
-    ensures exact { ends result ≡ sqr_wide_of (ends_64 a) }
-    ensures small { IsWithin result (2 ^ 88) }
+pub fn wide_square(a: Iv64) -> Iv
+    ensures { ends result ≡ sqr_wide_of (ends_64 a) }
 {
     if a.lo >= 0 {
         squares(a.lo, a.hi)
@@ -130,7 +136,42 @@ pub(crate) fn square(a: Iv64) -> Iv
     }
 }
 
+/// The same with a bound.
+#[inline(always)]
+pub(crate) fn square(a: Iv64) -> Iv
+    requires { IsWithin64 a (2 ^ 44) }
+    ensures exact { ends result ≡ sqr_wide_of (ends_64 a) }
+    ensures small { IsWithin result (2 ^ 88) }
+{
+    wide_square(a)
+}
+
 /// From units of 2^-76 to units of 2^-38, rounded down.
+#[inline(always)]
+fn down(z: i128) -> i128
+    requires low { neg_ℤ (pos (2 ^ 125)) ≤ℤ z }
+    requires high { z ≤ℤ pos (2 ^ 125) }
+    ensures value { result ≡ floor_of z (2 ^ 38) }
+    ensures low { neg_ℤ (pos (2 ^ 125)) ≤ℤ result }
+    ensures high { result ≤ℤ pos (2 ^ 125) }
+{
+    z >> 38
+}
+
+/// From units of 2^-76 to units of 2^-38, rounded outward: of an interval whose ends may be negated, in fewer instructions than
+/// those of `fix_interval`.
+#[inline(always)]
+pub fn narrow76(a: Iv) -> Iv
+    requires { IsWithin a (2 ^ 125) }
+    ensures exact { ends result ≡ narrow76_of (ends a) }
+{
+    Iv {
+        lo: down(a.lo),
+        hi: -down(-a.hi),
+    }
+}
+
+/// From units of 2^-76 to units of 2^-38, rounded down, where the quotient fits 64 bits.
 #[inline(always)]
 fn narrow_down(z: i128) -> i64
     requires low { neg_ℤ (pos (7 * 2 ^ 98)) ≤ℤ z }

@@ -5,12 +5,32 @@ ghost use Rattle.fractions.specs.Fraction.{Fraction};
 ghost use Rattle.raim_model.specs.Geometry.{row_of, weighed};
 ghost use Rattle.fix_interval.specs.Ends.{Ends, IsInside};
 ghost use Rattle.fix_interval.specs.Lies.{Lies};
-ghost use Rattle.fix_interval.specs.Intervals.{ends, IsWithin};
+ghost use Rattle.fix_interval.specs.Intervals.{ends, ends_64, IsWithin, IsWithin64};
 ghost use Rattle.geom_laws.specs.Rows.{row_of_ends, weighed_of, RowLies, RowInside};
 ghost use Rattle.geom_inverse.specs.Views.{row_ends};
 
 use crate::row::Row;
-use fix_interval::{Iv, mul};
+use fix_interval::{Iv, Iv64, mul};
+
+/// A part of a row, by ends of 64 bits.
+fn part(a: Iv) -> Iv64
+    requires { IsWithin a (2 ^ 38 + 1) }
+    ensures exact { ends_64 result ≡ ends a }
+    ensures small { IsWithin64 result (2 ^ 38 + 1) }
+{
+    a.in_64_bits()
+}
+
+/// A weight, by ends of 64 bits.
+fn weight(k: Iv) -> Iv64
+    requires not_negative { pos 0 ≤ℤ k.lo }
+    requires at_most_one { k.hi ≤ℤ pos (2 ^ 38) }
+    ensures exact { ends_64 result ≡ ends k }
+    ensures not_negative { pos 0 ≤ℤ result.lo }
+    ensures at_most_one { result.hi ≤ℤ pos (2 ^ 38) }
+{
+    k.in_64_bits()
+}
 
 impl Row {
     /// The row of a direction to the east, to the north and up, with the weight 1.
@@ -25,10 +45,10 @@ impl Row {
     {
         Row {
             prn,
-            e: dir[0],
-            n: dir[1],
-            u: dir[2],
-            k: Iv::ONE,
+            e: part(dir[0]),
+            n: part(dir[1]),
+            u: part(dir[2]),
+            k: weight(Iv::ONE),
         }
     }
 
@@ -48,10 +68,10 @@ impl Row {
     {
         Row {
             prn,
-            e: mul(k, dir[0]),
-            n: mul(k, dir[1]),
-            u: mul(k, dir[2]),
-            k,
+            e: part(mul(k, dir[0])),
+            n: part(mul(k, dir[1])),
+            u: part(mul(k, dir[2])),
+            k: weight(k),
         }
     }
 }

@@ -63,13 +63,6 @@ slope_over_at shift rows i d kappa =
     let b : ends_of (without i (named rows)) ≡ without i (rows_ends rows) = map-without (λ (r : NamedRow). r.ends) i (named rows) ∙ ap (λ t. without i t) a in
     rw (b, a) refl
 
--- the steps of one slope
-pub slope_is : (shift : Shift) (o : Outcome) (q all less kappa : Ends) (adj : SymEnds) (r s : RowEnds) (h : SymEnds) (rows : List RowEnds) (i : ℕ)
-    → o ≡ compared (checked_mul_of kappa q) (mul_wide_of all less) → q ≡ squared_of shift adj r → less ≡ det_of h → h ≡ gram_without_of rows i → r ≡ s
-    → o ≡ outcome_of shift adj all (determinant_of (without i rows)) s kappa
-unfolding outcome_of determinant_of gram_without_of
-slope_is shift o q all less kappa adj r s h rows i e p l g f = rw (← f, ← g, ← l, ← p) e
-
 -- one removal more
 pub removals_more : (rows : List Row) (i : ℕ) (d : Row) → i < length rows → take (i + 1) (removals (named rows)) ≡ take i (removals (named rows)) ++ removal_of rows i d ∷ []
 removals_more rows i d p =

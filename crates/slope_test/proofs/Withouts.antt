@@ -39,3 +39,11 @@ map-without f (suc j) (y ∷ ys) = ap (λ t. f y ∷ t) (map-without f j ys)
 -- a list without an entry is no longer than it
 pub without_few : {A : Type 0} (j : ℕ) (xs ys : List A) (n : ℕ) → ys ≡ without j xs → length xs ≤ n → length ys ≤ n
 without_few j xs ys n e p = let h = without_shorter j xs in rw e (omega arith)
+
+-- of two entries it is the same which one is left out first
+pub without_two : {A : Type 0} (i k : ℕ) (xs : List A) → i ≤ k → without k (without i xs) ≡ without i (without (suc k) xs)
+unfolding without
+without_two i k [] h = refl
+without_two zero k (x ∷ xs) h = refl
+without_two (suc i) zero (x ∷ xs) h = absurd (omega (arith, h))
+without_two (suc i) (suc k) (x ∷ xs) h = ap (λ t. x ∷ t) (without_two i k xs (omega (arith, h)))

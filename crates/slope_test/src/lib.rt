@@ -7,4 +7,4 @@ mod detection;
 mod slope;
 mod tally;
 
-pub use detection::{detect, detect_from_sums, detect_over};
+pub use detection::{detect, detect_from, detect_over};

@@ -1,6 +1,7 @@
 // How the slopes of a list come out.
-ghost use Rattle.std.specs.Prelude.{◌≡◌, List, [], ◌∷◌, ◌++◌};
+ghost use Rattle.std.specs.Prelude.{◌≡◌, List, [], ◌∷◌, ◌++◌, true};
 ghost use Rattle.slope_laws.specs.declared.Outcome.{Outcome};
+ghost use Rattle.slope_laws.specs.declared.Outcome.TheVariants.{Passes};
 ghost use Rattle.slope_laws.specs.Rows.{Removal};
 ghost use Rattle.slope_laws.specs.Slopes.{slopes_of, is_fails, is_straddles, is_overflows};
 ghost use Rattle.slope_test.specs.Tallies.{kept_first, IsTally};
@@ -24,6 +25,13 @@ fn keep_first(kept: Option<u8>, is: bool, prn: u8) -> Option<u8>
         Some(first) => Some(first),
         None => { if is { Some(prn) } else { None } }
     }
+}
+
+/// Whether it passes.
+fn passes(outcome: Outcome) -> bool
+    ensures { result ≡ true → outcome ≡ Passes }
+{
+    matches!(outcome, Outcome::Passes)
 }
 
 /// Whether it overflows.
@@ -59,11 +67,14 @@ impl Tally {
         }
     }
 
-    /// Counts one row more.
+    /// Counts one row more: one that passes changes nothing.
     pub(crate) fn with(self, prn: u8, came_out: Outcome) -> Tally
         ensures { (outcome : Removal → Outcome) (xs : List Removal) (x : Removal) → IsTally self outcome xs → x.row.prn ≡ prn → outcome x ≡ came_out
             → IsTally result outcome (xs ++ x ∷ []) }
     {
+        if passes(came_out) {
+            return self;
+        }
         Tally {
             overflows: keep_first(self.overflows, overflows(came_out), prn),
             fails: keep_first(self.fails, fails(came_out), prn),

@@ -5,12 +5,18 @@ use Rattle.fix_interval.specs.Products.{narrow76_of}
 use Rattle.fix_interval.specs.Ranges.{around}
 use Rattle.geom_laws.specs.Adjugate.{along_of}
 use Rattle.geom_laws.proofs.Bounds.{along_within}
-use Rattle.geom_inverse.proofs.Spans.{iv_inside, inside_iv, iv_weaken, short_inside, less_within}
+use Rattle.geom_inverse.proofs.Spans.{iv_inside, inside_iv, iv_weaken, short_inside, less_within, plus_within}
 use Rattle.geom_inverse.proofs.cofactors.without_up.Goals as goal
 
 pub plus-requires-clause-a_small : goal.plus-requires-clause-a_small
 plus-requires-clause-a_small c =
     iv_weaken (2 * 2 ^ 112) (2 ^ 125) (omega arith) (less_within (2 ^ 112) (2 ^ 112) c.less-two.ensures.exact (iv_inside c.product.ensures.small) (iv_inside c.product-2.ensures.small))
+
+pub narrow76-requires : goal.narrow76-requires
+narrow76-requires c =
+    let two = less_within (2 ^ 112) (2 ^ 112) c.less-two.ensures.exact (iv_inside c.product.ensures.small) (iv_inside c.product-2.ensures.small) in
+    let three = plus_within (2 * 2 ^ 112) (2 ^ 112) c.plus.ensures.exact two (iv_inside c.product-3.ensures.small) in
+    iv_weaken (3 * 2 ^ 112) (2 ^ 125) (omega arith) three
 
 pub returns-clause-exact : goal.returns-clause-exact
 unfolding along_of

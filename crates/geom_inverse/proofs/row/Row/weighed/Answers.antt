@@ -25,26 +25,32 @@ mul-requires-3 c =
     let l = c.told-dir in
     products_fit c.args.k _ (weight_iv c.args.k c.requires.not_negative c.requires.at_most_one) (c.requires.small 2 c.index-dir-2.result (omega arith))
 
-pub invariant_of-result : goal.invariant_of-result
-invariant_of-result c =
+pub part-requires : goal.part-requires
+part-requires c =
     let l = c.told-dir in
-    let k = weight_inside c.args.k c.requires.not_negative c.requires.at_most_one in
-    record {
-      e_small = inside_iv (subst (λ (t : Ends). IsInside t (around (2 ^ 38 + 1))) (sym c.mul.ensures.exact) (part_within k (iv_inside (c.requires.small 0 c.index-dir-0.result (omega arith)))));
-      n_small = inside_iv (subst (λ (t : Ends). IsInside t (around (2 ^ 38 + 1))) (sym c.mul-2.ensures.exact) (part_within k (iv_inside (c.requires.small 1 c.index-dir-1.result (omega arith)))));
-      u_small = inside_iv (subst (λ (t : Ends). IsInside t (around (2 ^ 38 + 1))) (sym c.mul-3.ensures.exact) (part_within k (iv_inside (c.requires.small 2 c.index-dir-2.result (omega arith)))));
-      k_not_negative = c.requires.not_negative;
-      k_small = c.requires.at_most_one;
-    }
+    inside_iv (subst (λ (t : Ends). IsInside t (around (2 ^ 38 + 1))) (sym c.mul.ensures.exact)
+    (part_within (weight_inside c.args.k c.requires.not_negative c.requires.at_most_one) (iv_inside (c.requires.small 0 c.index-dir-0.result (omega arith)))))
+
+pub part-requires-2 : goal.part-requires-2
+part-requires-2 c =
+    let l = c.told-dir in
+    inside_iv (subst (λ (t : Ends). IsInside t (around (2 ^ 38 + 1))) (sym c.mul-2.ensures.exact)
+    (part_within (weight_inside c.args.k c.requires.not_negative c.requires.at_most_one) (iv_inside (c.requires.small 1 c.index-dir-1.result (omega arith)))))
+
+pub part-requires-3 : goal.part-requires-3
+part-requires-3 c =
+    let l = c.told-dir in
+    inside_iv (subst (λ (t : Ends). IsInside t (around (2 ^ 38 + 1))) (sym c.mul-3.ensures.exact)
+    (part_within (weight_inside c.args.k c.requires.not_negative c.requires.at_most_one) (iv_inside (c.requires.small 2 c.index-dir-2.result (omega arith)))))
 
 pub returns-clause-exact : goal.returns-clause-exact
 unfolding weighed_of
 returns-clause-exact c e n u h =
     same_row
-    (c.mul.ensures.exact ∙ ap (λ (xs : List Iv). mul_of (ends c.args.k) (ends (slice_index_or xs 0 c.index-dir-0.result))) h)
-    (c.mul-2.ensures.exact ∙ ap (λ (xs : List Iv). mul_of (ends c.args.k) (ends (slice_index_or xs 1 c.index-dir-1.result))) h)
-    (c.mul-3.ensures.exact ∙ ap (λ (xs : List Iv). mul_of (ends c.args.k) (ends (slice_index_or xs 2 c.index-dir-2.result))) h)
-    refl
+    (c.part.ensures.exact ∙ c.mul.ensures.exact ∙ ap (λ (xs : List Iv). mul_of (ends c.args.k) (ends (slice_index_or xs 0 c.index-dir-0.result))) h)
+    (c.part-2.ensures.exact ∙ c.mul-2.ensures.exact ∙ ap (λ (xs : List Iv). mul_of (ends c.args.k) (ends (slice_index_or xs 1 c.index-dir-1.result))) h)
+    (c.part-3.ensures.exact ∙ c.mul-3.ensures.exact ∙ ap (λ (xs : List Iv). mul_of (ends c.args.k) (ends (slice_index_or xs 2 c.index-dir-2.result))) h)
+    c.weight.ensures.exact
 
 pub returns-clause-encloses : goal.returns-clause-encloses
 returns-clause-encloses c e n u x y z v h p q r s = subst (λ (t : RowEnds). RowLies t (weighed v (row_of x y z))) (sym (returns-clause-exact c e n u h)) (weighed_lies p q r s)
