@@ -13,6 +13,7 @@ use Rattle.raim_model.specs.Solution.{Case, HasVerdictFor}
 use Rattle.raim_model.specs.Geometry.{SquaredShift}
 use Rattle.raim_model.specs.CaseCuts.{InRootPiece}
 use Rattle.raim_model.specs.CaseRanges.{IsCase}
+use Rattle.time_laws.proofs.RunLemmas.{ordered}
 use Rattle.slope_laws.specs.Slopes.{SlopeTest}
 use Rattle.slope_laws.specs.Hold.{HoldsSlopes}
 use Rattle.verdict_laws.proofs.Masks.{undecided_is_near}
@@ -43,17 +44,13 @@ right_one shift test slopes alert_mm a c i run low high holds = record {
 abbrev pub Told : SlopeTest → (alert_mm : ℕ) → Case → Run → Type 0
 Told test alert_mm c run = (t : ℤ) → InRun run t → verdict_by_test test alert_mm c t t ≡ run.verdict
 
-reach : (w : ℤ → ℤ → Verdict) (before : Option Verdict) (first end : ℤ) (runs : List Run) → AreRunsAfter w before first end runs → first ≤ℤ end
-reach w before first end [] h = subst (λ e. first ≤ℤ e) h (omega (arith, ints))
-reach w before first end (run ∷ runs) h = let lt : first <ℤ run.end = h.1 in let le : run.end ≤ℤ end = reach w (Some run.verdict) run.end end runs h.4 in omega (arith, ints)
-
 all_right : (shift : SquaredShift) (test : SlopeTest) → HoldsSlopes shift test → (alert_mm : ℕ) → 1 ≤ alert_mm → (c : Case) → IsCase c → (before : Option Verdict) (first : ℤ) (runs : List Run) → (flight_of c.route).first ≤ℤ first → AreRunsAfter (verdict_by_test test alert_mm c) before first (flight_of c.route).end runs
     → All (λ run. IsRight shift alert_mm c run × Told test alert_mm c run) runs
 all_right shift test slopes alert_mm a c i before first [] low h = λ k d p. absurd (omega arith)
 all_right shift test slopes alert_mm a c i before first (run ∷ runs) low h =
     let e : run.first ≡ first = h.0 in
     let lt : first <ℤ run.end = h.1 in
-    let le : run.end ≤ℤ (flight_of c.route).end = reach (verdict_by_test test alert_mm c) (Some run.verdict) run.end (flight_of c.route).end runs h.4 in
+    let le : run.end ≤ℤ (flight_of c.route).end = ordered (verdict_by_test test alert_mm c) (Some run.verdict) run.end (flight_of c.route).end runs h.4 in
     let holds : Holds (verdict_by_test test alert_mm c) run.first run.end run.verdict = subst (λ f. Holds (verdict_by_test test alert_mm c) f run.end run.verdict) (sym e) h.2 in
     let here : IsRight shift alert_mm c run = right_one shift test slopes alert_mm a c i run (omega (arith, ints)) le holds in
     let told : Told test alert_mm c run = λ t k. holds.each t k.started k.not_over in

@@ -15,16 +15,15 @@ use Rattle.raim_model.specs.Solution.{Case, Sighting, is_seen}
 use Rattle.raim_model.specs.Weights.{weight_of}
 use Rattle.flight_laws.specs.Legs.{Leg, leg_at}
 use Rattle.flight_laws.proofs.Legs.{flight_leg}
-use Rattle.fix_interval.specs.Ends.{Ends, IsInside, IsBelow}
+use Rattle.fix_interval.specs.Ends.{Ends, IsInside}
 use Rattle.fix_interval.specs.Lies.{Lies}
-use Rattle.fix_interval.specs.Ranges.{around}
-use Rattle.fix_interval.specs.Vectors.{VectorInside, VectorBelow, VectorNarrow}
+use Rattle.fix_interval.specs.Vectors.{VectorInside, VectorNarrow}
 use Rattle.fix_interval.proofs.EndInsides.{inside_self}
 use Rattle.orbit_laws.specs.Positions.{position_of}
-use Rattle.orbit_laws.proofs.Positions.{position_encloses, position_isotone, position_below, position_width}
+use Rattle.orbit_laws.proofs.Positions.{position_encloses, position_isotone, position_width}
 use Rattle.site_laws.specs.Places.{PlaceEnds, PlaceInside, IsNearEarth}
 use Rattle.site_laws.specs.Frames.{frame_of}
-use Rattle.site_laws.specs.Sights.{SightEnds, visible, hidden, straddle, DirectionLies, SightInside, LookChoice, IsInReach, look_of}
+use Rattle.site_laws.specs.Sights.{SightEnds, visible, hidden, straddle, DirectionLies, SightInside, LookChoice, look_of}
 use Rattle.site_laws.proofs.FrameBounds.{frame_isotone}
 use Rattle.site_laws.proofs.PlaceOver.{place_over_encloses, place_over_isotone, place_over_near_earth, place_over_narrow}
 use Rattle.site_laws.proofs.LookEncloses.{look_hidden, look_visible}
@@ -37,7 +36,7 @@ use Rattle.verdict_laws.specs.Hold.{Shows, LeavesSight, HoldsSights}
 use Rattle.case_laws.specs.SightOver.{mask_of, weight_over, box_over, sight_given, sight_from, sight_on, sight_over}
 use Rattle.case_laws.proofs.Weights.{weight_encloses, weight_self}
 use Rattle.case_laws.proofs.Masks.{mask_encloses, mask_full, mask_narrow}
-use Rattle.case_laws.proofs.Records.{record_of, applicable}
+use Rattle.case_laws.proofs.Records.{record_of, applicable, in_reach}
 use Rattle.case_laws.proofs.Stretches.{leg_over, leg_found, leg_points}
 
 -- what a sighting and a receiver choose, as a look has it
@@ -116,16 +115,6 @@ straddles_given : (k : Ends) (w : SightEnds) → sight_given k w ≡ Straddles �
 straddles_given k straddle e = refl
 straddles_given k hidden e = absurd (cc)
 straddles_given k (visible d) e = absurd (cc)
-
--- a satellite of the model is one that is looked at
-in_reach : (rec : AlmRecord) (first last : ℤ) → IsAlmRecord rec → first ≤ℤ last → IsInReach (position_of rec first last)
-in_reach rec first last r o =
-    let b : VectorBelow (position_of rec first last) (2 ^ 46) = position_below rec first last r o in
-    let v : VectorInside (position_of rec first last) (position_of rec first last) = position_isotone rec first last first last r (omega (arith, ints)) o (omega (arith, ints)) in
-    record { x = reach b.x v.x.ordered; y = reach b.y v.y.ordered; z = reach b.z v.z.ordered }
-  where
-    reach : {a : Ends} → IsBelow a (2 ^ 46) → a.lo ≤ℤ a.hi → IsInside a (around (2 ^ 46))
-    reach {a} b o = let l = b.low in let h = b.high in record { low = omega (arith, ints); ordered = o; high = omega (arith, ints) }
 
 sight_narrow : (c : Case) → IsCase c → (t : ℤ) → InRootPiece c t t → (rec : AlmRecord) → IsListed c rec → sight_over c rec t t ≡ Straddles
     → (N : Level) (leg : OnLeg c.route t) (receiver : ReceiverSolution N (place_on leg)) (s : Sighting N c t (site receiver) rec) → IsNearMask s

@@ -1,13 +1,11 @@
 -- A certain verdict on what is seen is the point verdict of each solution whose sightings it shows.
-use Rattle.std.specs.Prelude.{◌≡◌, ℕ, ◌-◌, ◌<◌, ◌≤◌, ℤ, Bool, true, if◌then◌else◌, List, [], ◌∷◌, length, Some, None, refl}
+use Rattle.std.specs.Prelude.{◌≡◌, ℕ, ◌-◌, ◌<◌, ◌≤◌, ℤ, true, if◌then◌else◌, List, [], ◌∷◌, length, None}
 use Rattle.std.specs.declared.option.Option.{Option}
 use Rattle.std.proofs.Common.{arith, ap, sym, ◌∙◌, subst, inl, inr}
-use Rattle.std.proofs.lemmas.Bool.{cases_Bool, lt-ltb}
-use Rattle.fractions.specs.Fraction.{Fraction}
+use Rattle.std.proofs.lemmas.Bool.{cases_Bool}
 use Rattle.raim_model.specs.declared.almanac.AlmRecord.{AlmRecord}
 use Rattle.raim_model.specs.declared.limits.Limits.{Limits}
 use Rattle.raim_model.specs.declared.verdict.Why.{Why}
-use Rattle.raim_model.specs.declared.verdict.Why.TheVariants.{Few}
 use Rattle.raim_model.specs.declared.verdict.Verdict.{Verdict}
 use Rattle.raim_model.specs.Level.{Level}
 use Rattle.raim_model.specs.Judgements.{is_certain}
@@ -18,6 +16,7 @@ use Rattle.raim_model.specs.Geometry.{Row, SquaredShift, weighed}
 use Rattle.raim_model.specs.PointVerdict.{least_count, kappa_of, reason_of, verdict_for, point_verdict}
 use Rattle.raim_model.specs.Weights.{weight_of}
 use Rattle.raim_model.specs.Solution.{Case, Sighting, Sightings, is_seen, visible_rows}
+use Rattle.flight_laws.proofs.Few.{few_reason}
 use Rattle.slope_laws.specs.declared.subset.SubsetVerdict.{SubsetVerdict}
 use Rattle.slope_laws.specs.declared.subset.SubsetVerdict.TheVariants.{Pass, Fail, Straddle, Overflow}
 use Rattle.slope_laws.specs.Rows.{NamedRow, NamedRowsLie}
@@ -62,10 +61,6 @@ given_tells (Fail w) reason t e = ap verdict_for t
 given_tells (Straddle c) reason t e = absurd (cc)
 given_tells (Overflow p) reason t e = absurd (cc)
 
-few_reason : (shift : SquaredShift) (exclude : Bool) (k k_less : Fraction) (gs : List Row) → length gs < least_count exclude → reason_of shift exclude k k_less gs ≡ Some Few
-unfolding reason_of
-few_reason shift exclude k k_less gs h = rw (lt-ltb (length gs) (least_count exclude) h) refl
-
 test_tells : (shift : SquaredShift) (test : SlopeTest) → HoldsSlopes shift test → (limits : Limits) (alert_mm : ℕ) → 1 ≤ alert_mm → (rows : List NamedRow) (gs : List Row) → NamedRowsLie rows gs
     → Tells (test_by test limits alert_mm rows) (reason_of shift limits.exclude (kappa_of limits alert_mm (length gs)) (kappa_of limits alert_mm (length gs - 1)) gs)
 unfolding kappa_over
@@ -79,7 +74,7 @@ test_tells shift test holds limits alert_mm a rows gs l =
 pub verdict_shown : (shift : SquaredShift) (test : SlopeTest) → HoldsSlopes shift test → (limits : Limits) (alert_mm : ℕ) → 1 ≤ alert_mm → (seen : List Sighted) (gs : List Row) → RowsShown seen gs
     → is_certain (verdict_by test limits alert_mm seen) ≡ true → point_verdict shift limits alert_mm gs ≡ verdict_by test limits alert_mm seen
 verdict_shown shift test holds limits alert_mm a seen gs s certain = elim (few_or_enough test limits alert_mm seen) [
-  | inl h ↦ ap verdict_for (few_reason shift limits.exclude (kappa_of limits alert_mm (length gs)) (kappa_of limits alert_mm (length gs - 1)) gs (fewer h.0)) ∙ sym h.1
+  | inl h ↦ few_reason shift limits.exclude (kappa_of limits alert_mm (length gs)) (kappa_of limits alert_mm (length gs - 1)) gs (fewer h.0) ∙ sym h.1
   | inr h ↦ enough h.1
 ]
   where
