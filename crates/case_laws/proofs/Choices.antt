@@ -9,6 +9,7 @@ use Rattle.raim_model.specs.CaseRanges.{IsCase}
 use Rattle.verdict_laws.specs.Choices.{HasChoices}
 use Rattle.case_laws.proofs.Records.{record_of}
 
+-- orbits, receivers, sines and roots exist at every level
 pub has_choices : (c : Case) → IsCase c → HasChoices c
 has_choices c i = record {
   orbit = λ N t f rec m. has_solution N rec t (record_of c i rec m);

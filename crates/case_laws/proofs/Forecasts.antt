@@ -27,6 +27,7 @@ use Rattle.case_laws.proofs.Looks.{sights_hold}
 single : (c : Case) (t : ℤ) → (flight_of c.route).first ≤ℤ t → t <ℤ (flight_of c.route).end → InRootPiece c t t
 single c t low high = record { started = low; not_over = high; uncut = λ u k after. after }
 
+-- a run of the verdict, inside the flight, says what is so
 right_one : (shift : SquaredShift) (test : SlopeTest) → HoldsSlopes shift test → (alert_mm : ℕ) → 1 ≤ alert_mm → (c : Case) → IsCase c → (run : Run) → (flight_of c.route).first ≤ℤ run.first → run.end ≤ℤ (flight_of c.route).end → Holds (verdict_by_test test alert_mm c) run.first run.end run.verdict → IsRight shift alert_mm c run
 right_one shift test slopes alert_mm a c i run low high holds = record {
   certain = λ e t k.
@@ -44,6 +45,7 @@ right_one shift test slopes alert_mm a c i run low high holds = record {
 abbrev pub Told : SlopeTest → (alert_mm : ℕ) → Case → Run → Type 0
 Told test alert_mm c run = (t : ℤ) → InRun run t → verdict_by_test test alert_mm c t t ≡ run.verdict
 
+-- so does each of the runs that follow one another to the end of the flight
 all_right : (shift : SquaredShift) (test : SlopeTest) → HoldsSlopes shift test → (alert_mm : ℕ) → 1 ≤ alert_mm → (c : Case) → IsCase c → (before : Option Verdict) (first : ℤ) (runs : List Run) → (flight_of c.route).first ≤ℤ first → AreRunsAfter (verdict_by_test test alert_mm c) before first (flight_of c.route).end runs
     → All (λ run. IsRight shift alert_mm c run × Told test alert_mm c run) runs
 all_right shift test slopes alert_mm a c i before first [] low h = λ k d p. absurd (omega arith)
@@ -70,6 +72,7 @@ in_some w before first end (run ∷ runs) t h low high = by_lt_z t run.end
     (λ q. let l : LiesInRun runs t (w t t) = in_some w (Some run.verdict) run.end end runs t h.4 q high in
     record { run = l.run; listed = Contains-append_right (run ∷ []) runs l.run l.listed; inside = l.inside; verdict = l.verdict })
 
+-- the runs of the flight are a forecast
 pub forecast : (shift : SquaredShift) (test : SlopeTest) → HoldsSlopes shift test → (alert_mm : ℕ) → 1 ≤ alert_mm → (c : Case) → IsCase c → (runs : List Run) → AreRuns (verdict_by_test test alert_mm c) (flight_of c.route).first (flight_of c.route).end runs → IsForecastBy shift test alert_mm c runs
 forecast shift test slopes alert_mm a c i runs h =
     let all = all_right shift test slopes alert_mm a c i None (flight_of c.route).first runs (omega (arith, ints)) h in

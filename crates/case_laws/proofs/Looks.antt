@@ -56,12 +56,14 @@ choice c i first last t low high N leg started not_over receiver rec r s =
       is_range = s.is_range;
     }
 
+-- what a look says of a choice, its sight shows
 shows_given : (N : Level) (c : Case) (t : ℤ) (from : Site) (rec : AlmRecord) (s : Sighting N c t from rec) (k : Ends) → Lies k 38 (weight_of c.limits.weights.items rec.prn) → (w : SightEnds)
     → (w ≡ hidden → is_seen s ≡ false) → ((d : _) → w ≡ visible d → (is_seen s ≡ true) × DirectionLies d (direction_row from (satellite_position s.orbit) s.range)) → Shows (sight_given k w) s
 shows_given N c t from rec s k l hidden h v = h refl
 shows_given N c t from rec s k l straddle h v = tt
 shows_given N c t from rec s k l (visible d) h v = let p = v d refl in (p.0, weighed_lies p.1.east p.1.north p.1.up l)
 
+-- a sight shows each sighting
 sight_encloses : (c : Case) → IsCase c → (first last t : ℤ) → InRootPiece c first last → first ≤ℤ t → t ≤ℤ last
     → (N : Level) (leg : OnLeg c.route t) (receiver : ReceiverSolution N (place_on leg)) (rec : AlmRecord) → IsListed c rec
     → (s : Sighting N c t (site receiver) rec) → Shows (sight_over c rec first last) s
@@ -87,6 +89,7 @@ leaves_given k o (visible b) (visible a) h = weighed_inside h.east h.north h.up 
 leaves_given k o (visible b) hidden h = absurd h
 leaves_given k o (visible b) straddle h = absurd h
 
+-- a sight is left to each piece inside
 sight_isotone : (c : Case) → IsCase c → (first last a b : ℤ) → InRootPiece c first last → first ≤ℤ a → a ≤ℤ b → b ≤ℤ last
     → (rec : AlmRecord) → IsListed c rec → LeavesSight (sight_over c rec first last) (sight_over c rec a b)
 unfolding leg_over
@@ -116,6 +119,7 @@ straddles_given k straddle e = refl
 straddles_given k hidden e = absurd (cc)
 straddles_given k (visible d) e = absurd (cc)
 
+-- over one millisecond it straddles only near equality
 sight_narrow : (c : Case) → IsCase c → (t : ℤ) → InRootPiece c t t → (rec : AlmRecord) → IsListed c rec → sight_over c rec t t ≡ Straddles
     → (N : Level) (leg : OnLeg c.route t) (receiver : ReceiverSolution N (place_on leg)) (s : Sighting N c t (site receiver) rec) → IsNearMask s
 unfolding choice
@@ -131,5 +135,6 @@ sight_narrow c i t p rec m e N leg receiver s =
     let q : look_of (frame_of box) (position_of rec t t) (mask_of c.limits) ≡ straddle = straddles_given (weight_over c.limits.weights.items rec.prn) (look_of (frame_of box) (position_of rec t t) (mask_of c.limits)) f in
     look_narrow near (in_reach rec t t r o) (mask_full c.limits) (place_over_narrow leg.start leg.stop t leg.started leg.not_over) n (mask_narrow c.limits) q N k
 
+-- so the verdicts that are given by it are right, and stay
 pub sights_hold : (c : Case) → IsCase c → HoldsSights c (sight_over c)
 sights_hold c i = record { encloses = sight_encloses c i; isotone = sight_isotone c i; narrow = sight_narrow c i }

@@ -27,23 +27,28 @@ use Rattle.case_laws.specs.SightOver.{mask_of}
 mask_lies : (d : Dec) → Lies (from_dec_over_of d 360) 38 (turns_of_degrees d)
 mask_lies d = from_dec_over_encloses d 360 refl (lit≤ tt)
 
+-- it is an interval
 mask_ordered : (d : Dec) → (from_dec_over_of d 360).lo ≤ℤ (from_dec_over_of d 360).hi
 mask_ordered d = lies_ordered (mask_lies d)
 
+-- at most a unit wide
 mask_width : (d : Dec) → IsNarrow (from_dec_over_of d 360) 1
 unfolding from_dec_over_of
 mask_width d = outward_width (signed d.neg d.digits) (10 ^ d.places * 360) 38 (mul-pos (ten_positive d.places) (lit≤ tt))
 
+-- each sine of the mask that the model admits lies in it
 pub mask_encloses : (limits : Limits) (N : Level) (s : Fraction) → IsSine N (turns_of_degrees limits.mask) s → Lies (mask_of limits) 38 s
 unfolding mask_of
 mask_encloses limits N s i =
     let p : PairLies (sin_cos_of (from_dec_over_of limits.mask 360)) s i.cosine = sin_cos_encloses refl (mask_ordered limits.mask) N (turns_of_degrees limits.mask) s i.cosine (mask_lies limits.mask) i.pair in
     p.sine
 
+-- it is from -1 to 1
 pub mask_full : (limits : Limits) → IsInside (mask_of limits) full_ends
 unfolding mask_of
 mask_full limits = (sin_cos_full (from_dec_over_of limits.mask 360) (mask_ordered limits.mask)).sine
 
+-- it is at most 2^9 units wide
 pub mask_narrow : (limits : Limits) → IsNarrow (mask_of limits) (2 ^ 9)
 unfolding mask_of
 mask_narrow limits =

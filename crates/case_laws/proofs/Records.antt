@@ -15,9 +15,11 @@ use Rattle.orbit_laws.specs.Positions.{position_of}
 use Rattle.orbit_laws.proofs.Positions.{position_isotone, position_below}
 use Rattle.site_laws.specs.Sights.{IsInReach}
 
+-- an almanac of a case is an accepted one
 listed_records : (c : Case) → IsCase c → (rec : AlmRecord) (m : IsListed c rec) → AreRecords (flight_of c.route) m.almanac
 listed_records c i rec m = All-contains (AreRecords (flight_of c.route)) c.almanacs m.almanac i.almanacs.each m.is
 
+-- and so is each of its records
 pub record_of : (c : Case) → IsCase c → (rec : AlmRecord) → IsListed c rec → IsAlmRecord rec
 record_of c i rec m = let a : AreRecords (flight_of c.route) m.almanac = listed_records c i rec m in All-contains IsAlmRecord m.almanac rec a.each m.has
 

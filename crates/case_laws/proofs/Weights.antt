@@ -19,6 +19,7 @@ use Rattle.geom_laws.proofs.Rows.{one_lies}
 use Rattle.site_laws.proofs.LookEncloses.{lies_ordered}
 use Rattle.case_laws.specs.SightOver.{weight_over}
 
+-- the weight of the model lies in it
 pub weight_encloses : (ws : List Weight) (prn : ℕ) → Lies (weight_over ws prn) 38 (weight_of ws prn)
 weight_encloses [] prn = one_lies
 weight_encloses (w ∷ ws) prn = elim (cases_Bool (w.prn == prn)) [
@@ -30,6 +31,7 @@ weight_encloses (w ∷ ws) prn = elim (cases_Bool (w.prn == prn)) [
 pub weight_self : (ws : List Weight) (prn : ℕ) → IsInside (weight_over ws prn) (weight_over ws prn)
 weight_self ws prn = inside_self (weight_over ws prn) (lies_ordered (weight_encloses ws prn))
 
+-- no units are 0
 no_units : ratio (pos 0) (2 ^ 38) ≤ᶠ zeroᶠ
 no_units = constants (search quote depth 20) tt
 

@@ -17,9 +17,11 @@ use Rattle.flight_laws.proofs.Usable.{usable_recorded}
 use Rattle.flight_laws.proofs.Legs.{flight_leg}
 use Rattle.raim_model.specs.CaseRanges.{IsListed}
 
+-- a squared length is not negative
 dot_not_negative : (p : Vector) → zeroᶠ ≤ᶠ dot p p
 dot_not_negative p = not_negative_sum (p.x *ᶠ p.x +ᶠ p.y *ᶠ p.y) (p.z *ᶠ p.z) (not_negative_sum (p.x *ᶠ p.x) (p.y *ᶠ p.y) (not_negative_square p.x) (not_negative_square p.y)) (not_negative_square p.z)
 
+-- there is a sighting of each listed record
 sighting : (c : Case) → HasChoices c → (N : Level) (t : ℤ) → InFlight c t → (from : Site) (rec : AlmRecord) → IsListed c rec → Sighting N c t from rec
 sighting c has N t f from rec m =
     let orbit : OrbitSolution N rec t = has.orbit N t f rec m in
@@ -28,10 +30,12 @@ sighting c has N t f from rec m =
     let range : (w : Fraction) × IsRoot N (dot line line) w = has.root N (dot line line) (dot_not_negative line) in
     record { orbit = orbit; sine = sine.0; is_sine = sine.1; range = range.0; is_range = range.1 }
 
+-- and of each of a list
 sightings : (c : Case) → HasChoices c → (N : Level) (t : ℤ) → InFlight c t → (from : Site) (recs : List AlmRecord) → AllByRecursion (λ rec. IsListed c rec) recs → Sightings N c t from recs
 sightings c has N t f from [] h = tt
 sightings c has N t f from (rec ∷ recs) h = (sighting c has N t f from rec h.0, sightings c has N t f from recs h.1)
 
+-- so there is a solution
 pub solution : (c : Case) → HasChoices c → (N : Level) (t : ℤ) → InFlight c t → Solution N c t
 solution c has N t f =
     let leg : OnLeg c.route t = flight_leg c t f in

@@ -13,6 +13,7 @@ use Rattle.fix_interval.proofs.EndInsides.{inside_self}
 use Rattle.fix_interval.proofs.EndQuotients.{from_ratio_encloses}
 use Rattle.verdict_laws.specs.PieceVerdict.{kappa_over}
 
+-- the square of what is positive is positive
 positive_square : (a : ℕ) → 1 ≤ a → 0 < a * a
 positive_square a h = grind (arith)
 
@@ -24,6 +25,7 @@ kappa_encloses limits alert_mm n h =
     let e : ratio (pos b) alert_mm *ᶠ ratio (pos b) alert_mm ≡ ratio (pos (b * b)) (alert_mm * alert_mm) = ratio-mul (pos b) (pos b) alert_mm alert_mm h h in
     subst (λ t. Lies (from_ratio_of (pos (b * b)) (alert_mm * alert_mm)) 38 t) (sym e) (from_ratio_encloses (pos (b * b)) (alert_mm * alert_mm) refl (positive_square alert_mm h))
 
+-- its ends are in order
 kappa_ordered : (limits : Limits) (alert_mm n : ℕ) → 1 ≤ alert_mm → (kappa_over limits alert_mm n).lo ≤ℤ (kappa_over limits alert_mm n).hi
 unfolding kappa_over from_ratio_of outward_of
 kappa_ordered limits alert_mm n h = floor_of-at_most-ceil_of (pos (bias_of limits n * bias_of limits n) *ℤ pos (2 ^ 38)) (alert_mm * alert_mm) (positive_square alert_mm h)

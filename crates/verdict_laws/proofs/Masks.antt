@@ -27,6 +27,7 @@ use Rattle.verdict_laws.proofs.Seen.{few_or_enough}
 use Rattle.verdict_laws.proofs.Straddling.{Straddling, Distinct, FoundStraddling, distinct_rising, found}
 use Rattle.verdict_laws.proofs.NoMask.{given_no_mask, test_no_mask}
 
+-- only a satellite that straddles makes a verdict undecided by the mask
 mask_straddles : (o : Option ℕ) (v : Verdict) (prn : ℕ) → v ≢ verdict.Undecided (Mask prn) → unless_straddling o v ≡ verdict.Undecided (Mask prn) → o ≡ Some prn
 mask_straddles (Some p) v prn n e = let f : p ≡ prn = cc in ap Some f
 mask_straddles None v prn n e = absurd (n e)
@@ -41,12 +42,14 @@ undecided_straddles test limits alert_mm seen prn h = elim (few_or_enough test l
     not_few : verdict.Unavailable Few ≢ verdict.Undecided (Mask prn)
     not_few e = cc
 
+-- each sighting of a satellite that straddles over one millisecond is near
 all_near : (c : Case) (sight : AlmRecord → ℤ → ℤ → Sight) → HoldsSights c sight → (t : ℤ) → InRootPiece c t t → (prn : ℕ) (N : Level) (leg : OnLeg c.route t) (receiver : ReceiverSolution N (place_on leg))
     → (recs : List AlmRecord) → AllByRecursion (λ rec. IsListed c rec) recs → Straddling (λ rec. sight rec t t) prn recs → (s : Sightings N c t (site receiver) recs) → AreNearMask N c t (site receiver) prn recs s
 all_near c sight holds t p prn N leg receiver [] m h s = tt
 all_near c sight holds t p prn N leg receiver (rec ∷ recs) m h s =
     (λ e. holds.narrow t p rec m.0 (h.0 e) N leg receiver s.0, all_near c sight holds t p prn N leg receiver recs m.1 h.1 s.1)
 
+-- so the satellite that is named is near in every solution
 pub undecided_is_near : (test : SlopeTest) (alert_mm : ℕ) (c : Case) → IsCase c → (sight : AlmRecord → ℤ → ℤ → Sight) → HoldsSights c sight
     → (t : ℤ) → InRootPiece c t t → (prn : ℕ) → piece_verdict_by test alert_mm sight c t t ≡ verdict.Undecided (Mask prn) → IsNearMaskAlways c t prn
 unfolding piece_verdict_by

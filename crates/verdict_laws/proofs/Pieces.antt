@@ -20,12 +20,14 @@ use Rattle.verdict_laws.proofs.Shown.{AllShow, rows_shown, verdict_shown}
 use Rattle.flight_laws.proofs.Usable.{usable_same, usable_recorded}
 use Rattle.raim_model.specs.Geometry.{SquaredShift}
 
+-- the sights of a list of records leave themselves to a piece inside
 all_leave : (c : Case) (sight : AlmRecord → ℤ → ℤ → Sight) → HoldsSights c sight → (first last a b : ℤ) → InRootPiece c first last → first ≤ℤ a → a ≤ℤ b → b ≤ℤ last
     → (recs : List AlmRecord) → AllByRecursion (λ rec. IsListed c rec) recs → AllLeave (λ rec. sight rec first last) (λ rec. sight rec a b) recs
 all_leave c sight holds first last a b p low ordered high [] h = tt
 all_leave c sight holds first last a b p low ordered high (rec ∷ recs) h =
     (holds.isotone first last a b p low ordered high rec h.0, all_leave c sight holds first last a b p low ordered high recs h.1)
 
+-- a certain verdict is that on each piece inside
 pub piece_settles : {shift : SquaredShift} (test : SlopeTest) → HoldsSlopes shift test → (c : Case) (alert_mm : ℕ) → 1 ≤ alert_mm → (sight : AlmRecord → ℤ → ℤ → Sight) → HoldsSights c sight
     → (first last a b : ℤ) → InRootPiece c first last → is_certain (piece_verdict_by test alert_mm sight c first last) ≡ true → first ≤ℤ a → a ≤ℤ b → b ≤ℤ last
     → piece_verdict_by test alert_mm sight c a b ≡ piece_verdict_by test alert_mm sight c first last
@@ -36,6 +38,7 @@ piece_settles test slopes c alert_mm alert sight sights first last a b p certain
     ap (λ recs. verdict_by test c.limits alert_mm (sighted_over (λ rec. sight rec a b) recs)) e
     ∙ verdict_left test slopes c.limits alert_mm alert (λ rec. sight rec first last) (λ rec. sight rec a b) (usable c first) l certain
 
+-- the sights of a list of records show its sightings
 all_show : (c : Case) (sight : AlmRecord → ℤ → ℤ → Sight) → HoldsSights c sight → (first last t : ℤ) → InRootPiece c first last → first ≤ℤ t → t ≤ℤ last
     → (N : Level) (leg : OnLeg c.route t) (receiver : ReceiverSolution N (place_on leg))
     → (recs : List AlmRecord) → AllByRecursion (λ rec. IsListed c rec) recs → (s : Sightings N c t (site receiver) recs) → AllShow N c t (site receiver) (λ rec. sight rec first last) recs s
@@ -43,6 +46,7 @@ all_show c sight holds first last t p low high N leg receiver [] h s = tt
 all_show c sight holds first last t p low high N leg receiver (rec ∷ recs) h s =
     (holds.encloses first last t p low high N leg receiver rec h.0 s.0, all_show c sight holds first last t p low high N leg receiver recs h.1 s.1)
 
+-- a certain verdict is that of every solution
 pub piece_is_right : (shift : SquaredShift) (test : SlopeTest) → HoldsSlopes shift test → (c : Case) (alert_mm : ℕ) → 1 ≤ alert_mm → (sight : AlmRecord → ℤ → ℤ → Sight) → HoldsSights c sight
     → (first last t : ℤ) → InRootPiece c first last → is_certain (piece_verdict_by test alert_mm sight c first last) ≡ true → first ≤ℤ t → t ≤ℤ last
     → HasVerdictFor shift alert_mm c t (piece_verdict_by test alert_mm sight c first last)

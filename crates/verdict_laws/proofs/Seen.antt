@@ -27,6 +27,7 @@ use Rattle.raim_model.specs.Geometry.{SquaredShift}
 abbrev pub AllLeave : (wide inside : AlmRecord → Sight) → List AlmRecord → Type 0
 AllLeave wide inside recs = AllByRecursion (λ rec. LeavesSight (wide rec) (inside rec)) recs
 
+-- what may be visible over a piece inside may be over the wider one
 possible_left : (w i : Sight) → LeavesSight w i → one_if_possible i ≤ one_if_possible w
 possible_left (Visible r) (Visible q) l = omega arith
 possible_left (Visible r) Hidden l = absurd l
@@ -36,6 +37,7 @@ possible_left Straddles (Visible q) l = omega arith
 possible_left Straddles Hidden l = omega arith
 possible_left Straddles Straddles l = omega arith
 
+-- so over a piece inside no more satellites may be visible
 pub count_left : (wide inside : AlmRecord → Sight) (recs : List AlmRecord) → AllLeave wide inside recs → count_possible (sighted_over inside recs) ≤ count_possible (sighted_over wide recs)
 count_left wide inside [] l = omega arith
 count_left wide inside (rec ∷ recs) l =
@@ -49,6 +51,7 @@ pub record SameSeen (wide inside : List Sighted) : Type 0 where
   pub none : first_straddling inside ≡ None
   pub rows : NamedRowsInside (rows_seen inside) (rows_seen wide)
 
+-- one record more
 same_left : (prn : ℕ) (w i : Sight) (wide inside : List Sighted) → LeavesSight w i → or_straddling prn w (first_straddling wide) ≡ None
     → (first_straddling wide ≡ None → SameSeen wide inside) → SameSeen (record { prn = prn; sight = w } ∷ wide) (record { prn = prn; sight = i } ∷ inside)
 same_left prn (Visible r) (Visible q) wide inside l h k =
@@ -62,16 +65,19 @@ same_left prn Hidden i wide inside l h k =
     (record { count = ap (λ t. 0 + t) s.count; none = s.none; rows = s.rows })
 same_left prn Straddles i wide inside l h k = absurd (cc)
 
+-- the same of a list of records
 pub same_seen : (wide inside : AlmRecord → Sight) (recs : List AlmRecord) → AllLeave wide inside recs → first_straddling (sighted_over wide recs) ≡ None → SameSeen (sighted_over wide recs) (sighted_over inside recs)
 same_seen wide inside [] l h = record { count = refl; none = refl; rows = tt }
 same_seen wide inside (rec ∷ recs) l h = same_left rec.prn (wide rec) (inside rec) (sighted_over wide recs) (sighted_over inside recs) l.0 h (same_seen wide inside recs l.1)
 
+-- the verdict that a decided test gives is that of the rows inside
 given_left : (wide inside : SubsetVerdict) → LeavesVerdict wide inside → is_certain (verdict_given wide) ≡ true → verdict_given inside ≡ verdict_given wide
 given_left Pass inside l e = ap verdict_given l
 given_left (Fail w) inside l e = ap verdict_given l
 given_left (Straddle c) inside l e = absurd (cc)
 given_left (Overflow p) inside l e = absurd (cc)
 
+-- the test of wider rows is left to rows inside
 test_left : {shift : SquaredShift} (test : SlopeTest) → HoldsSlopes shift test → (limits : Limits) (alert_mm : ℕ) → 1 ≤ alert_mm → (wide rows : List NamedRow) → NamedRowsInside rows wide → LeavesVerdict (test_by test limits alert_mm wide) (test_by test limits alert_mm rows)
 unfolding kappa_over
 test_left test holds limits alert_mm a wide rows i =
@@ -81,10 +87,12 @@ test_left test holds limits alert_mm a wide rows i =
       | inr e ↦ rw (inside_length rows wide i, e) (detect_left test holds rows wide (kappa_over limits alert_mm n) (kappa_over limits alert_mm n) i (kappa_inside limits alert_mm n a))
     ]
 
+-- where too few may be visible the verdict is Few
 few_is : (test : SlopeTest) (limits : Limits) (alert_mm : ℕ) (seen : List Sighted) → count_possible seen < least_count limits.exclude → verdict_by test limits alert_mm seen ≡ verdict.Unavailable Few
 unfolding verdict_by
 few_is test limits alert_mm seen h = rw (lt-ltb (count_possible seen) (least_count limits.exclude) h) refl
 
+-- and where enough may be, it is what the mask and the test make of them
 enough_is : (test : SlopeTest) (limits : Limits) (alert_mm : ℕ) (seen : List Sighted) → least_count limits.exclude ≤ count_possible seen
     → verdict_by test limits alert_mm seen ≡ unless_straddling (first_straddling seen) (verdict_given (test_by test limits alert_mm (rows_seen seen)))
 unfolding verdict_by
@@ -95,6 +103,7 @@ pub no_straddle : (o : Option ℕ) (v : Verdict) → is_certain (unless_straddli
 no_straddle (Some p) v e = absurd (cc)
 no_straddle None v e = refl
 
+-- one or the other
 pub few_or_enough : (test : SlopeTest) (limits : Limits) (alert_mm : ℕ) (seen : List Sighted)
     → ((count_possible seen < least_count limits.exclude) × (verdict_by test limits alert_mm seen ≡ verdict.Unavailable Few))
     ⊎ ((least_count limits.exclude ≤ count_possible seen) × (verdict_by test limits alert_mm seen ≡ unless_straddling (first_straddling seen) (verdict_given (test_by test limits alert_mm (rows_seen seen)))))
@@ -103,20 +112,21 @@ few_or_enough test limits alert_mm seen = elim (cases_lt (count_possible seen) (
   | inr h ↦ inr (h, enough_is test limits alert_mm seen h)
 ]
 
+-- a certain verdict is that of the sights over a piece inside
 pub verdict_left : {shift : SquaredShift} (test : SlopeTest) → HoldsSlopes shift test → (limits : Limits) (alert_mm : ℕ) → 1 ≤ alert_mm → (wide inside : AlmRecord → Sight) (recs : List AlmRecord) → AllLeave wide inside recs
     → is_certain (verdict_by test limits alert_mm (sighted_over wide recs)) ≡ true → verdict_by test limits alert_mm (sighted_over inside recs) ≡ verdict_by test limits alert_mm (sighted_over wide recs)
 verdict_left test holds limits alert_mm a wide inside recs l certain = elim (few_or_enough test limits alert_mm (sighted_over wide recs)) [
   | inl h ↦ few_is test limits alert_mm (sighted_over inside recs) (fewer h.0) ∙ sym h.1
-  | inr h ↦ open_ h.0 h.1
+  | inr h ↦ with_enough h.0 h.1
 ]
   where
     fewer : count_possible (sighted_over wide recs) < least_count limits.exclude → count_possible (sighted_over inside recs) < least_count limits.exclude
     fewer h = let le = count_left wide inside recs l in omega arith
 
-    open_ : least_count limits.exclude ≤ count_possible (sighted_over wide recs)
+    with_enough : least_count limits.exclude ≤ count_possible (sighted_over wide recs)
         → verdict_by test limits alert_mm (sighted_over wide recs) ≡ unless_straddling (first_straddling (sighted_over wide recs)) (verdict_given (test_by test limits alert_mm (rows_seen (sighted_over wide recs))))
         → verdict_by test limits alert_mm (sighted_over inside recs) ≡ verdict_by test limits alert_mm (sighted_over wide recs)
-    open_ enough e =
+    with_enough enough e =
         let w : List Sighted = sighted_over wide recs in
         let i : List Sighted = sighted_over inside recs in
         let given : Verdict = verdict_given (test_by test limits alert_mm (rows_seen w)) in

@@ -39,6 +39,7 @@ pub record RowsShown (seen : List Sighted) (gs : List Row) : Type 0 where
   pub count : length gs ≤ count_possible seen
   pub rows : first_straddling seen ≡ None → NamedRowsLie (rows_seen seen) gs
 
+-- one record more
 shown_here : (N : Level) (c : Case) (t : ℤ) (from : Site) (rec : AlmRecord) (w : Sight) (s : Sighting N c t from rec) (seen : List Sighted) (gs : List Row) → Shows w s → RowsShown seen gs
     → RowsShown (record { prn = rec.prn; sight = w } ∷ seen) (if is_seen s then weighed (weight_of c.limits.weights.items rec.prn) (direction_row from (satellite_position s.orbit) s.range) ∷ gs else gs)
 shown_here N c t from rec (Visible r) s seen gs h k = rw h.0 (record { count = let le = k.count in omega arith; rows = λ o. (h.1, k.rows o) })
@@ -48,6 +49,7 @@ shown_here N c t from rec Straddles s seen gs h k = record {
   rows = λ o. absurd (cc);
 }
 
+-- the visible rows of a solution are those of the sights that show its sightings
 pub rows_shown : (N : Level) (c : Case) (t : ℤ) (from : Site) (sight : AlmRecord → Sight) (recs : List AlmRecord) (s : Sightings N c t from recs) → AllShow N c t from sight recs s
     → RowsShown (sighted_over sight recs) (visible_rows N c t from recs s)
 unfolding visible_rows
@@ -55,12 +57,14 @@ rows_shown N c t from sight [] s h = record { count = omega arith; rows = λ o. 
 rows_shown N c t from sight (rec ∷ recs) s h =
     shown_here N c t from rec (sight rec) s.0 (sighted_over sight recs) (visible_rows N c t from recs s.1) h.0 (rows_shown N c t from sight recs s.1 h.1)
 
+-- the verdict that a decided test gives is that of its reason
 given_tells : (v : SubsetVerdict) (reason : Option Why) → Tells v reason → is_certain (verdict_given v) ≡ true → verdict_for reason ≡ verdict_given v
 given_tells Pass reason t e = ap verdict_for t
 given_tells (Fail w) reason t e = ap verdict_for t
 given_tells (Straddle c) reason t e = absurd (cc)
 given_tells (Overflow p) reason t e = absurd (cc)
 
+-- the test tells the reason of the rows inside
 test_tells : (shift : SquaredShift) (test : SlopeTest) → HoldsSlopes shift test → (limits : Limits) (alert_mm : ℕ) → 1 ≤ alert_mm → (rows : List NamedRow) (gs : List Row) → NamedRowsLie rows gs
     → Tells (test_by test limits alert_mm rows) (reason_of shift limits.exclude (kappa_of limits alert_mm (length gs)) (kappa_of limits alert_mm (length gs - 1)) gs)
 unfolding kappa_over
@@ -71,6 +75,7 @@ test_tells shift test holds limits alert_mm a rows gs l =
       | inr e ↦ rw (lie_length rows gs l, e) (detect_reason shift test holds rows (kappa_over limits alert_mm n) gs (kappa_of limits alert_mm n) (kappa_of limits alert_mm (n - 1)) l (kappa_encloses limits alert_mm n a))
     ]
 
+-- a certain verdict is the point verdict of the rows that are shown
 pub verdict_shown : (shift : SquaredShift) (test : SlopeTest) → HoldsSlopes shift test → (limits : Limits) (alert_mm : ℕ) → 1 ≤ alert_mm → (seen : List Sighted) (gs : List Row) → RowsShown seen gs
     → is_certain (verdict_by test limits alert_mm seen) ≡ true → point_verdict shift limits alert_mm gs ≡ verdict_by test limits alert_mm seen
 verdict_shown shift test holds limits alert_mm a seen gs s certain = elim (few_or_enough test limits alert_mm seen) [
