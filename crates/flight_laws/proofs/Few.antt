@@ -24,7 +24,8 @@ visible_few N c t from (rec ∷ recs) s = by_test (visible_few N c t from recs s
     by_test h true = omega arith
     by_test h false = omega arith
 
-few_reason : (shift : SquaredShift) (exclude : Bool) (k k_less : Fraction) (gs : List Row) → length gs < least_count exclude → verdict_for (reason_of shift exclude k k_less gs) ≡ Unavailable Few
+-- a list that is too short has the verdict Few
+pub few_reason : (shift : SquaredShift) (exclude : Bool) (k k_less : Fraction) (gs : List Row) → length gs < least_count exclude → verdict_for (reason_of shift exclude k k_less gs) ≡ Unavailable Few
 unfolding reason_of
 few_reason shift exclude k k_less gs h = let e : nat_lt (length gs) (least_count exclude) ≡ true = grind arith in rw e refl
 
