@@ -106,23 +106,39 @@ fn comparisons_are_certain(rt: HostRuntime) {
 
 #[test]
 fn decimals_are_rounded_outward(rt: HostRuntime) {
-    let ninety = Dec::new(false, 90, 0);
+    let ninety = Dec {
+        neg: false,
+        digits: 90,
+        places: 0,
+    };
     assert_eq!(rt;
         ends(Iv::from_dec_over(&ninety, 360)),
         (68719476736, 68719476736)
     );
-    let half = Dec::new(false, 5, 1);
+    let half = Dec {
+        neg: false,
+        digits: 5,
+        places: 1,
+    };
     assert_eq!(rt; ends(Iv::from_dec(&half)), (137438953472, 137438953472));
     assert_eq!(rt;
         ends(dec76(&half)),
         (37778931862957161709568, 37778931862957161709568)
     );
-    let thousand = Dec::new(false, 1000, 0);
+    let thousand = Dec {
+        neg: false,
+        digits: 1000,
+        places: 0,
+    };
     assert_eq!(rt;
         ends(dec56_milli(&thousand)),
         (72057594037927936, 72057594037927936)
     );
-    let tenth = Dec::new(true, 1, 1);
+    let tenth = Dec {
+        neg: true,
+        digits: 1,
+        places: 1,
+    };
     assert_eq!(rt; ends(Iv::from_dec(&tenth)), (-27487790695, -27487790694));
     assert_eq!(rt;
         ends(dec76(&tenth)),
@@ -132,7 +148,11 @@ fn decimals_are_rounded_outward(rt: HostRuntime) {
 
 #[test]
 fn decimals_of_the_greatest_size(rt: HostRuntime) {
-    let whole = Dec::new(true, 999999999999999999, 0);
+    let whole = Dec {
+        neg: true,
+        digits: 999999999999999999,
+        places: 0,
+    };
     assert_eq!(rt;
         ends(Iv::from_dec(&whole)),
         (
@@ -151,25 +171,45 @@ fn decimals_of_the_greatest_size(rt: HostRuntime) {
             -72057594037927935927942405962072
         )
     );
-    let least = Dec::new(false, 999999999999999999, 30);
+    let least = Dec {
+        neg: false,
+        digits: 999999999999999999,
+        places: 30,
+    };
     assert_eq!(rt; ends(Iv::from_dec_over(&least, 1000000)), (0, 1));
     assert_eq!(rt; ends(dec76(&least)), (75557863725, 75557863726));
-    let near_ten = Dec::new(true, 999999999999999999, 17);
+    let near_ten = Dec {
+        neg: true,
+        digits: 999999999999999999,
+        places: 17,
+    };
     assert_eq!(rt;
         ends(dec76(&near_ten)),
         (-755578637259143233435782, -755578637259143233435781)
     );
-    let ten = Dec::new(false, 10, 0);
+    let ten = Dec {
+        neg: false,
+        digits: 10,
+        places: 0,
+    };
     assert_eq!(rt;
         ends(dec76(&ten)),
         (755578637259143234191360, 755578637259143234191360)
     );
-    let root = Dec::new(false, 5153636719, 6);
+    let root = Dec {
+        neg: false,
+        digits: 5153636719,
+        places: 6,
+    };
     assert_eq!(rt;
         ends(dec56_milli(&root)),
         (371358662516660889, 371358662516660890)
     );
-    let turn = Dec::new(true, 12963728561, 10);
+    let turn = Dec {
+        neg: true,
+        digits: 12963728561,
+        places: 10,
+    };
     assert_eq!(rt;
         ends(Iv::from_dec_over(&turn, 360)),
         (-989845160, -989845159)
