@@ -3,6 +3,7 @@ use Rattle.std.proofs.Common.{◌≡◌, ℕ, ◌+◌, ◌<◌, refl, arith, ℤ
 use Rattle.std.proofs.lemmas.Int.{to_z-of_z, to_z_pos}
 use Rattle.jiff_core.specs.Calendar.{IsEpochDay}
 use Rattle.jiff_core.proofs.SignedLemmas.{signed_arith}
+use Rattle.gps_week.specs.GpsTime.{IsInstant}
 
 -- a day number, moved to the epoch of GPS time
 pub day_from_epoch : (n : ℤ) → IsEpochDay n → to_z w64 (of_z w64 (to_z w64 (of_z w64 (to_z w32 (of_z w32 n))) -ℤ pos 3657)) ≡ n -ℤ pos 3657
@@ -23,3 +24,9 @@ day_to_unix n h =
 pub unsigned_abs-not_negative : (z : ℤ) → pos 0 ≤ℤ z → pos (unsigned_abs z) ≡ z
 unsigned_abs-not_negative (pos n) late = refl
 unsigned_abs-not_negative (negsuc n) late = absurd (omega (arith, signed_arith, late))
+
+-- an instant is kept in 64 bits
+pub instant_kept : (leap : ℕ) (ms : ℤ) → leap < 256 → IsInstant leap ms → to_z w64 (of_z w64 ms) ≡ ms
+instant_kept leap ms few instant =
+    let fits : FitsSigned w64 ms = omega (arith, signed_arith, few, instant.0, instant.1) in
+    to_z-of_z w64 ms fits

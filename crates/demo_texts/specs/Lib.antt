@@ -1,0 +1,3 @@
+pub mod Demo
+pub mod Summary
+pub mod Laws

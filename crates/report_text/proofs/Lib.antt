@@ -1,0 +1,9 @@
+pub mod CutLemmas
+pub mod PieceLemmas
+pub mod PlainLemmas
+pub mod PrnLemmas
+pub mod VerdictLemmas
+pub mod LineLemmas
+pub mod ReportLaws
+pub mod AnswerLemmas
+pub mod PrintLemmas

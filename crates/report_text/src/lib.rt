@@ -1,0 +1,16 @@
+//! Reports: the text of a flight's runs, printed and read back.
+#![tactic(auto)]
+
+mod cut;
+mod laws;
+mod line;
+mod printing;
+mod reading;
+#[cfg(test)]
+mod tests;
+mod verdict_form;
+mod verdict_text;
+
+pub use laws::printing_and_reading_are_inverse;
+pub use printing::print_report;
+pub use reading::read_report;
