@@ -1,5 +1,5 @@
 -- The leg of a millisecond by the place of its first waypoint.
-use Rattle.std.specs.Prelude.{◌≡◌, ℕ, zero, suc, ◌+◌, ◌-◌, ◌<◌, ℤ, pos, ◌≤ℤ◌, ◌<ℤ◌, List, [], ◌∷◌, ◌++◌, take, drop, length, map, slice_index_or, Some, Bool, true, false, refl}
+use Rattle.std.specs.Prelude.{◌≡◌, ℕ, zero, suc, ◌+◌, ◌<◌, ℤ, ◌≤ℤ◌, ◌<ℤ◌, List, [], ◌∷◌, ◌++◌, take, drop, length, slice_index_or, Some, true, false, refl}
 use lib.Signed.{le_z}
 use Rattle.std.proofs.lemmas.Int.{ints, by_lt_z}
 use Rattle.std.proofs.Common.{arith, ap, sym, subst, ◌∙◌}
@@ -7,7 +7,7 @@ use Rattle.raim_model.specs.declared.waypoint.Waypoint.{Waypoint}
 use Rattle.raim_model.specs.Ranges.{IsRoute}
 use Rattle.raim_model.specs.Receiver.{OnLeg}
 use Rattle.raim_model.specs.Route.{time_at}
-use Rattle.flight_laws.specs.Legs.{Leg, leg_at}
+use Rattle.flight_laws.specs.Legs.{leg_at}
 use Rattle.raim_model.specs.Solution.{Case}
 use Rattle.raim_model.specs.CaseCuts.{InRootPiece}
 use Rattle.flight_laws.proofs.Legs.{leg_at_is, leg_through}

@@ -1,4 +1,5 @@
 pub mod Orders
+pub mod FlightTimes
 pub mod CutLemmas
 pub mod Outs
 pub mod LegLemmas

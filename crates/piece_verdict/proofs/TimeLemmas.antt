@@ -1,5 +1,5 @@
 -- The times of a case's almanacs and of its flight are times that a cut may have.
-use Rattle.std.specs.Prelude.{◌≡◌, ℕ, zero, suc, ◌≤◌, ◌<◌, ℤ, pos, ◌≤ℤ◌, ◌<ℤ◌, List, [], ◌∷◌, length, map, All}
+use Rattle.std.specs.Prelude.{◌≡◌, zero, suc, ◌≤◌, ℤ, ◌≤ℤ◌, List, [], ◌∷◌, length, map, All}
 use Rattle.std.proofs.Common.{arith, subst}
 use Rattle.std.proofs.lemmas.Int.{ints}
 use Rattle.std.proofs.lemmas.List.{length-map}

@@ -12,7 +12,7 @@ use Rattle.fix_interval.specs.Ends.{Ends}
 use Rattle.orbit_laws.specs.Positions.{position_of}
 use Rattle.site_laws.specs.Frames.{FrameEnds}
 use Rattle.site_laws.specs.Sights.{SightEnds, look_of}
-use Rattle.verdict_laws.specs.Sights.{Sight, Sighted, sighted_over}
+use Rattle.verdict_laws.specs.Sights.{Sighted}
 use Rattle.case_laws.specs.SightOver.{sight_given, weight_over}
 use Rattle.piece_verdict.specs.declared.seen.Seen.{Seen}
 use Rattle.piece_verdict.specs.Seen.{IsSeen}

@@ -1,14 +1,13 @@
 -- The weight of a satellite, looked up one by one.
-use Rattle.std.specs.Prelude.{◌≡◌, ◌≢◌, ℕ, ◌+◌, ◌<◌, ◌≤◌, ◌^◌, pos, ◌≤ℤ◌, List, [], ◌∷◌, drop, length, slice_index_or, All, refl}
-use Rattle.std.proofs.Common.{arith, ap, sym, subst, ◌∙◌}
-use Rattle.std.proofs.lemmas.Int.{ints}
+use Rattle.std.specs.Prelude.{◌≡◌, ◌≢◌, ℕ, ◌+◌, ◌<◌, ◌≤◌, ◌^◌, pos, ◌≤ℤ◌, List, ◌∷◌, drop, length, slice_index_or, All, refl}
+use Rattle.std.proofs.Common.{ap, sym, subst, ◌∙◌}
 use Rattle.std.proofs.lemmas.Bool.{eq-eqb, ne_eqb}
 use Rattle.std.proofs.lemmas.List.{drop_more, drop_all}
 use Rattle.raim_model.specs.declared.limits.Weight.{Weight}
 use Rattle.raim_model.specs.Ranges.{IsWeight}
-use Rattle.fix_interval.specs.Ends.{Ends, IsInside}
+use Rattle.fix_interval.specs.Ends.{Ends}
 use Rattle.fix_interval.specs.Decimals.{from_dec_of}
-use Rattle.fix_interval.specs.Ranges.{one_ends, unit_ends}
+use Rattle.fix_interval.specs.Ranges.{one_ends}
 use Rattle.case_laws.specs.SightOver.{weight_over}
 use Rattle.case_laws.proofs.Weights.{weight_bounded}
 

@@ -8,7 +8,6 @@ use Rattle.std.proofs.lemmas.List.{length-map, get_or_default}
 use Rattle.raim_model.specs.declared.almanac.AlmRecord.{AlmRecord}
 use Rattle.raim_model.specs.declared.verdict.Why.TheVariants.{Few}
 use Rattle.raim_model.specs.declared.verdict.Cmp.TheVariants.{Mask}
-use Rattle.raim_model.specs.declared.verdict.Verdict.{Verdict}
 use Rattle.raim_model.specs.declared.verdict.Verdict.TheVariants as verdict
 use Rattle.raim_model.specs.AlmanacInForce.{time_of, in_force}
 use Rattle.raim_model.specs.AlmanacRanges.{IsApplicable, AreRecords}
@@ -31,6 +30,7 @@ use Rattle.case_laws.specs.SightOver.{mask_of, sight_over}
 use Rattle.piece_verdict.specs.Views.{seen_from, all_seen_from}
 
 -- ---- what is seen
+-- sights that are the same for each record
 same_sights : (f g : AlmRecord → Sight) → ((rec : AlmRecord) → f rec ≡ g rec) → (recs : List AlmRecord) → sighted_over f recs ≡ sighted_over g recs
 same_sights f g e [] = refl
 same_sights f g e (rec ∷ recs) = ap (λ w. record { prn = rec.prn; sight = w } ∷ sighted_over f recs) (e rec) ∙ ap (λ ss. record { prn = rec.prn; sight = g rec } ∷ ss) (same_sights f g e recs)
@@ -72,18 +72,22 @@ rows_count (s ∷ ss) h = step s.prn s.sight ss h (rows_count ss)
     step p Hidden ss h k = let e = k h in omega arith
     step p Straddles ss h k = absurd (cc)
 
+-- so there are enough of them
 pub enough_rows : (seen : List Sighted) (rows : List NamedRow) (n : ℕ) → n ≤ count_possible seen → first_straddling seen ≡ None → rows ≡ rows_seen seen → n ≤ length rows
 enough_rows seen rows n h s e = let c = rows_count seen s in let l = ap length e in omega arith
 
 -- ---- the verdict
+-- too few
 pub is_few : (c : Case) (first last : ℤ) → count_possible (seen_of c first last) < least_count c.limits.exclude → verdict.Unavailable Few ≡ piece_verdict_of c first last
 unfolding piece_verdict_by verdict_by
 is_few c first last h = rw (lt-ltb (count_possible (seen_of c first last)) (least_count c.limits.exclude) h) refl
 
+-- one straddles
 pub is_masked : (c : Case) (first last : ℤ) (prn : ℕ) → least_count c.limits.exclude ≤ count_possible (seen_of c first last) → first_straddling (seen_of c first last) ≡ Some prn → verdict.Undecided (Mask prn) ≡ piece_verdict_of c first last
 unfolding piece_verdict_by verdict_by
 is_masked c first last prn h e = rw (le-ltb (count_possible (seen_of c first last)) (least_count c.limits.exclude) h, e) refl
 
+-- the rows are tested
 pub is_tested : (c : Case) (first last : ℤ) (rows : List NamedRow) (v : SubsetVerdict) → least_count c.limits.exclude ≤ count_possible (seen_of c first last) → first_straddling (seen_of c first last) ≡ None
     → rows ≡ rows_seen (seen_of c first last) → v ≡ test_by (slopes_for Horizontal) c.limits c.limits.alert_mm rows → verdict_given v ≡ piece_verdict_of c first last
 unfolding piece_verdict_by verdict_by

@@ -10,7 +10,7 @@ ghost use Rattle.piece_verdict.specs.CaseLaws.{case_inherits, case_settles};
 
 use crate::case::Case;
 use crate::looks::Looks;
-use crate::test::{given, test};
+use crate::slopes::{given, test};
 use raim_model::{Cmp, Piece, Verdict, Why};
 use std::sync::ledger::Ledger;
 use step_counter::Steps;

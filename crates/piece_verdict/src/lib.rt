@@ -11,7 +11,7 @@ mod looks;
 mod satellite;
 mod seen;
 mod sights;
-mod test;
+mod slopes;
 mod usable;
 mod vertical;
 mod views;

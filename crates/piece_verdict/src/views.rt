@@ -16,7 +16,7 @@ use crate::legs::leg;
 use crate::looks::Looks;
 use crate::seen::Seen;
 use crate::sights::sights;
-use crate::test::needed;
+use crate::slopes::needed;
 use almanac_choice::in_force_at;
 use leg_place::place_over;
 use wgs_position::{SiteFrame, frame};

@@ -1,8 +1,7 @@
-use Rattle.std.proofs.Common.{arith, rules, ◌≡◌, ap, subst, sym, ◌∙◌}
+use Rattle.std.proofs.Common.{arith, ap, subst, sym, ◌∙◌}
 use Rattle.std.proofs.lemmas.Int.{ints}
 use Rattle.fix_interval.specs.Ends.{IsInside}
 use Rattle.fix_interval.specs.Intervals.{ends}
-use Rattle.fix_interval.specs.Decimals.{from_dec_over_of}
 use Rattle.trig_laws.specs.SinCos.{sin_cos_of}
 use Rattle.site_laws.specs.Places.{widest_place}
 use Rattle.site_laws.proofs.PlaceOver.{latitude_inside}

@@ -1,10 +1,10 @@
 use Rattle.std.proofs.Common.{◌≡◌, ap, sym, subst, ◌∙◌}
-use Rattle.std.specs.Prelude.{ℤ, List, Contains}
+use Rattle.std.specs.Prelude.{Contains}
 use Rattle.std.specs.List.{dedup}
 use Rattle.std.specs.Ordering.{int_eq}
 use Rattle.std.proofs.lemmas.List.Filters.{dedup_is}
 use Rattle.almanac_laws.specs.Handovers.{handovers_of}
-use Rattle.piece_verdict.specs.Cuts.{cut_times, AreCutTimes}
+use Rattle.piece_verdict.specs.Cuts.{cut_times}
 use Rattle.piece_verdict.proofs.Orders.{dedup_rises, dedup_keeps, dedup_from}
 use Rattle.piece_verdict.proofs.cuts.cuts_of.Goals as goal
 

@@ -1,4 +1,4 @@
-use Rattle.std.proofs.Common.{arith, ◌≡◌, ◌^◌, ◌<◌}
+use Rattle.std.proofs.Common.{arith, ◌^◌, ◌<◌}
 use Rattle.fix_interval.specs.Intervals.{ends}
 use Rattle.raim_model.specs.PointVerdict.{bias_of}
 use Rattle.verdict_laws.specs.PieceVerdict.{kappa_over}

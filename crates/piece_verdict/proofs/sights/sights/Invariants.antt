@@ -1,4 +1,4 @@
-use Rattle.std.proofs.Common.{◌≡◌, ◌≤◌, take, length}
+use Rattle.std.proofs.Common.{◌≤◌, take, length}
 use Rattle.fix_interval.specs.Intervals.{ends}
 use Rattle.wgs_position.specs.Frames.{frame_ends}
 use Rattle.piece_verdict.specs.Seen.{IsSeen}

@@ -1,4 +1,4 @@
-use Rattle.std.proofs.Common.{◌≡◌, sym, subst, ◌∙◌}
+use Rattle.std.proofs.Common.{sym, subst, ◌∙◌}
 use Rattle.std.specs.Prelude.{All}
 use Rattle.raim_model.specs.CaseCuts.{CutsFlight, MayBeJudged}
 use Rattle.raim_model.specs.Cuts.{AreCuts, IsCutTime}

@@ -1,7 +1,6 @@
-use Rattle.std.proofs.Common.{◌≡◌, ◌<◌, subst}
+use Rattle.std.proofs.Common.{subst}
 use Rattle.std.proofs.lemmas.Int.{to_z-of_z}
 use Rattle.raim_model.specs.PointVerdict.{least_count}
-use Rattle.verdict_laws.specs.Sights.{count_possible}
 use Rattle.case_laws.specs.PieceVerdict.{seen_of}
 use Rattle.slope_test.specs.Named.{named}
 use Rattle.piece_verdict.specs.Looks.{AreLooks}

@@ -1,9 +1,8 @@
-use Rattle.std.proofs.Common.{arith, ◌≡◌, sym, subst, ap, ◌∙◌, length}
-use Rattle.std.specs.Prelude.{All, List, ◌≤◌, ◌<ℤ◌}
+use Rattle.std.proofs.Common.{arith, ◌≡◌, sym, subst, ◌∙◌}
+use Rattle.std.specs.Prelude.{All, List, ◌<ℤ◌}
 use Rattle.std.proofs.lemmas.Int.{ints, to_z-of_z}
 use Rattle.raim_model.specs.declared.almanac.AlmRecord.{AlmRecord}
 use Rattle.raim_model.specs.AlmanacInForce.{in_force}
-use Rattle.raim_model.specs.AlmanacRanges.{IsApplicable}
 use Rattle.raim_model.specs.CaseCuts.{MayBeJudged}
 use Rattle.raim_model.specs.Cuts.{IsCutTime}
 use Rattle.raim_model.specs.Route.{flight_of}

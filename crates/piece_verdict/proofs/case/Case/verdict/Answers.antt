@@ -1,4 +1,4 @@
-use Rattle.std.proofs.Common.{◌≡◌, ◌≤◌, sym, subst, ap, ◌∙◌, length}
+use Rattle.std.proofs.Common.{◌≤◌, sym, subst, ap, ◌∙◌, length}
 use Rattle.std.proofs.lemmas.Int.{to_z-of_z}
 use Rattle.std.proofs.lemmas.List.{length-map}
 use Rattle.raim_model.specs.PointVerdict.{least_count}

@@ -1,4 +1,4 @@
-use Rattle.std.proofs.Common.{◌≡◌, ap, subst, ◌∙◌}
+use Rattle.std.proofs.Common.{◌≡◌, subst}
 use Rattle.std.proofs.lemmas.Int.{to_z-of_z}
 use Rattle.raim_model.specs.Judgements.{Answers}
 use Rattle.case_laws.specs.PieceVerdict.{piece_verdict_of}

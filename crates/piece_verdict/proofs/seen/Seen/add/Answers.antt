@@ -1,14 +1,12 @@
-use Rattle.std.proofs.Common.{arith, rules, ◌≡◌, ◌+◌, ◌++◌, ◌∷◌, [], length, refl, sym, ap, subst, ◌∙◌}
-use Rattle.std.specs.Prelude.{ℕ}
+use Rattle.std.proofs.Common.{arith, rules, ◌≡◌, ◌++◌, ◌∷◌, [], length, refl, sym, ap, ◌∙◌}
 use Rattle.fix_interval.specs.Intervals.{ends}
 use Rattle.site_laws.specs.Sights.{visible}
-use Rattle.slope_laws.specs.Rows.{NamedRow}
-use Rattle.verdict_laws.specs.Sights.{Visible, Hidden, Straddles, rows_seen}
+use Rattle.verdict_laws.specs.Sights.{Hidden, Straddles, rows_seen}
 use Rattle.case_laws.specs.SightOver.{sight_given}
 use Rattle.geom_inverse.specs.Views.{row_ends}
 use Rattle.slope_test.specs.Named.{named}
 use Rattle.elev_mask.specs.Sights.{sight_ends, direction_ends}
-use Rattle.piece_verdict.specs.Seen.{first_kept, IsSeen}
+use Rattle.piece_verdict.specs.Seen.{first_kept}
 use Rattle.piece_verdict.proofs.SeenLemmas.{rows_more, rows_same, count_more, first_same, first_more, named_more, direction_within, row_given}
 use Rattle.piece_verdict.proofs.seen.Seen.add.Goals as goal
 
