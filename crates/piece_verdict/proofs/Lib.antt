@@ -1,0 +1,15 @@
+pub mod Orders
+pub mod FlightTimes
+pub mod CutLemmas
+pub mod Outs
+pub mod LegLemmas
+pub mod FromLeg
+pub mod Biases
+pub mod Reaches
+pub mod SeenLemmas
+pub mod ViewLemmas
+pub mod TimeLemmas
+pub mod Whole
+pub mod WeightLemmas
+pub mod LooksLemmas
+pub mod Judged

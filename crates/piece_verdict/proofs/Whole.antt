@@ -1,0 +1,95 @@
+-- What is seen over a piece of a case, and the verdict that it gives.
+use Rattle.std.specs.Prelude.{◌≡◌, ℕ, ◌+◌, ◌<◌, ◌≤◌, ℤ, ◌≤ℤ◌, ◌<ℤ◌, List, [], ◌∷◌, map, length, slice_index_or, All, Some, None, refl}
+use Rattle.std.specs.List.{filter}
+use Rattle.std.proofs.Common.{arith, ap, sym, ◌∙◌}
+use Rattle.std.proofs.lemmas.Int.{ints}
+use Rattle.std.proofs.lemmas.Bool.{lt-ltb, le-ltb}
+use Rattle.std.proofs.lemmas.List.{length-map, get_or_default}
+use Rattle.raim_model.specs.declared.almanac.AlmRecord.{AlmRecord}
+use Rattle.raim_model.specs.declared.verdict.Why.TheVariants.{Few}
+use Rattle.raim_model.specs.declared.verdict.Cmp.TheVariants.{Mask}
+use Rattle.raim_model.specs.declared.verdict.Verdict.TheVariants as verdict
+use Rattle.raim_model.specs.AlmanacInForce.{time_of, in_force}
+use Rattle.raim_model.specs.AlmanacRanges.{IsApplicable, AreRecords}
+use Rattle.raim_model.specs.CaseRanges.{IsCase}
+use Rattle.raim_model.specs.PointVerdict.{least_count}
+use Rattle.raim_model.specs.Route.{flight_of}
+use Rattle.raim_model.specs.Solution.{Case}
+use Rattle.raim_model.specs.Usable.{is_usable}
+use Rattle.flight_laws.proofs.Usable.{records_in_force}
+use Rattle.fix_interval.specs.Ends.{Ends}
+use Rattle.site_laws.specs.Frames.{FrameEnds}
+use Rattle.slope_laws.specs.declared.shift.Shift.TheVariants.{Horizontal}
+use Rattle.slope_laws.specs.declared.subset.SubsetVerdict.{SubsetVerdict}
+use Rattle.slope_laws.specs.Rows.{NamedRow}
+use Rattle.slope_laws.specs.ShiftSlopes.{slopes_for}
+use Rattle.verdict_laws.specs.Sights.{Sight, Visible, Hidden, Straddles, Sighted, sighted_over, one_if_possible, count_possible, or_straddling, first_straddling, with_row, rows_seen}
+use Rattle.verdict_laws.specs.PieceVerdict.{test_by, verdict_given, verdict_by, piece_verdict_by}
+use Rattle.case_laws.specs.PieceVerdict.{seen_of, piece_verdict_of}
+use Rattle.case_laws.specs.SightOver.{mask_of, sight_over}
+use Rattle.piece_verdict.specs.Views.{seen_from, all_seen_from}
+
+-- ---- what is seen
+-- sights that are the same for each record
+same_sights : (f g : AlmRecord → Sight) → ((rec : AlmRecord) → f rec ≡ g rec) → (recs : List AlmRecord) → sighted_over f recs ≡ sighted_over g recs
+same_sights f g e [] = refl
+same_sights f g e (rec ∷ recs) = ap (λ w. record { prn = rec.prn; sight = w } ∷ sighted_over f recs) (e rec) ∙ ap (λ ss. record { prn = rec.prn; sight = g rec } ∷ ss) (same_sights f g e recs)
+
+-- what is seen from the frame of the satellites of the almanac in force is what is seen over the piece
+pub seen_whole : (c : Case) (first last : ℤ) (frame : FrameEnds) (mask : Ends) (recs : List AlmRecord) → recs ≡ in_force first c.almanacs → mask ≡ mask_of c.limits
+    → ((rec : AlmRecord) → seen_from frame (mask_of c.limits) c.limits.weights.items first last rec ≡ sight_over c rec first last)
+    → all_seen_from frame mask c.limits.weights.items c.outages first last recs ≡ seen_of c first last
+seen_whole c first last frame mask recs r m e =
+    ap (λ rs. all_seen_from frame mask c.limits.weights.items c.outages first last rs) r
+    ∙ ap (λ x. all_seen_from frame x c.limits.weights.items c.outages first last (in_force first c.almanacs)) m
+    ∙ same_sights (seen_from frame (mask_of c.limits) c.limits.weights.items first last) (λ rec. sight_over c rec first last) e (filter (is_usable c.outages first) (in_force first c.almanacs))
+
+-- the records at the place of the almanac in force are its records
+pub force_at : (c : Case) (times : List ℤ) (place : ℕ) (u : ℤ) (here recs : List AlmRecord) → map time_of c.almanacs ≡ times → place < length times → slice_index_or c.almanacs place [] ≡ in_force u c.almanacs
+    → here ≡ slice_index_or c.almanacs place here → recs ≡ here → recs ≡ in_force u c.almanacs
+force_at c times place u here recs t p f h r =
+    let n : length times ≡ length c.almanacs = ap length (sym t) ∙ length-map c.almanacs time_of in
+    r ∙ h ∙ get_or_default c.almanacs place here [] (omega arith) ∙ f
+
+-- the records of the almanac in force may be asked at each millisecond of the flight
+pub all_applicable : (c : Case) → IsCase c → (recs : List AlmRecord) (u t : ℤ) → recs ≡ in_force u c.almanacs → (flight_of c.route).first ≤ℤ t → t <ℤ (flight_of c.route).end → All (λ rec. IsApplicable rec t) recs
+all_applicable c i recs u t e low high = rw e (λ k d p. let a = r.at_first k d p in let b = r.at_end k d p in let x = a.not_before in let y = b.not_after in record { not_before = omega (arith, ints); not_after = omega (arith, ints) })
+  where
+    r : AreRecords (flight_of c.route) (in_force u c.almanacs)
+    r = records_in_force c i u
+
+-- and are few
+pub few_records : (c : Case) → IsCase c → (recs : List AlmRecord) (u : ℤ) → recs ≡ in_force u c.almanacs → length recs ≤ 32
+few_records c i recs u e = rw e (records_in_force c i u).few
+
+-- where none straddles, the possible ones have rows
+rows_count : (seen : List Sighted) → first_straddling seen ≡ None → length (rows_seen seen) ≡ count_possible seen
+rows_count [] h = refl
+rows_count (s ∷ ss) h = step s.prn s.sight ss h (rows_count ss)
+  where
+    step : (p : ℕ) (w : Sight) (ss : List Sighted) → or_straddling p w (first_straddling ss) ≡ None → (first_straddling ss ≡ None → length (rows_seen ss) ≡ count_possible ss) → length (with_row p w (rows_seen ss)) ≡ one_if_possible w + count_possible ss
+    step p (Visible r) ss h k = let e = k h in omega arith
+    step p Hidden ss h k = let e = k h in omega arith
+    step p Straddles ss h k = absurd (cc)
+
+-- so there are enough of them
+pub enough_rows : (seen : List Sighted) (rows : List NamedRow) (n : ℕ) → n ≤ count_possible seen → first_straddling seen ≡ None → rows ≡ rows_seen seen → n ≤ length rows
+enough_rows seen rows n h s e = let c = rows_count seen s in let l = ap length e in omega arith
+
+-- ---- the verdict
+-- too few
+pub is_few : (c : Case) (first last : ℤ) → count_possible (seen_of c first last) < least_count c.limits.exclude → verdict.Unavailable Few ≡ piece_verdict_of c first last
+unfolding piece_verdict_by verdict_by
+is_few c first last h = rw (lt-ltb (count_possible (seen_of c first last)) (least_count c.limits.exclude) h) refl
+
+-- one straddles
+pub is_masked : (c : Case) (first last : ℤ) (prn : ℕ) → least_count c.limits.exclude ≤ count_possible (seen_of c first last) → first_straddling (seen_of c first last) ≡ Some prn → verdict.Undecided (Mask prn) ≡ piece_verdict_of c first last
+unfolding piece_verdict_by verdict_by
+is_masked c first last prn h e = rw (le-ltb (count_possible (seen_of c first last)) (least_count c.limits.exclude) h, e) refl
+
+-- the rows are tested
+pub is_tested : (c : Case) (first last : ℤ) (rows : List NamedRow) (v : SubsetVerdict) → least_count c.limits.exclude ≤ count_possible (seen_of c first last) → first_straddling (seen_of c first last) ≡ None
+    → rows ≡ rows_seen (seen_of c first last) → v ≡ test_by (slopes_for Horizontal) c.limits c.limits.alert_mm rows → verdict_given v ≡ piece_verdict_of c first last
+unfolding piece_verdict_by verdict_by
+is_tested c first last rows v h s e t =
+    rw (le-ltb (count_possible (seen_of c first last)) (least_count c.limits.exclude) h, s) (ap verdict_given (t ∙ ap (λ rs. test_by (slopes_for Horizontal) c.limits c.limits.alert_mm rs) e))

@@ -1,0 +1,17 @@
+-- What is seen of some satellites, as the program keeps it.
+use Rattle.std.specs.Prelude.{◌≡◌, ℕ, List, Some, None}
+use Rattle.std.specs.declared.option.Option.{Option}
+use Rattle.slope_test.specs.Named.{named}
+use Rattle.verdict_laws.specs.Sights.{Sighted, count_possible, first_straddling, rows_seen}
+use Rattle.piece_verdict.specs.declared.seen.Seen.{Seen}
+
+-- the satellite kept before, and else this one
+abbrev pub first_kept : Option ℕ → ℕ → Option ℕ
+first_kept (Some first) prn = Some first
+first_kept None prn = Some prn
+
+-- it is what is seen of these
+pub record IsSeen (kept : Seen) (seen : List Sighted) : Type 0 where
+  pub rows : named kept.rows.items ≡ rows_seen seen
+  pub possible : kept.possible ≡ count_possible seen
+  pub straddling : kept.straddling ≡ first_straddling seen

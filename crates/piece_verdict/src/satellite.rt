@@ -1,0 +1,68 @@
+// A satellite of an almanac, with its orbit.
+ghost use Rattle.std.specs.Prelude.{◌≡◌, ◌^◌, ◌≤ℤ◌};
+ghost use Rattle.fix_interval.specs.Vectors.{vector_ends, VectorBelow};
+ghost use Rattle.orbit_laws.specs.Positions.{position_of};
+ghost use Rattle.raim_model.specs.AlmanacRanges.{IsAlmRecord, IsApplicable};
+ghost use Rattle.raim_model.specs.Usable.{is_usable};
+
+use crate::usable::usable;
+use almanac_orbit::{Orbit, position, prepare};
+use fix_interval::Iv;
+use raim_model::{AlmRecord, Outage};
+use std::marker::Model;
+
+/// A satellite's record and its orbit. Contracts see it as the record.
+#[derive(Drop)]
+pub(crate) struct Satellite {
+    rec: AlmRecord,
+    orbit: Orbit,
+}
+
+impl Model for Satellite {
+    ghost use Rattle.std.specs.Prelude.{◌≡◌};
+    ghost use Rattle.raim_model.specs.declared.almanac.AlmRecord.{AlmRecord};
+
+    ghost Value = { AlmRecord };
+
+    ghost view = { λ s. s.rec };
+
+    ghost invariant = { λ s. s.orbit ≡ s.rec };
+}
+
+impl Satellite {
+    /// The satellite of an accepted record.
+    pub(crate) fn of(rec: &AlmRecord) -> Satellite
+        requires { IsAlmRecord rec.now }
+        ensures { result ≡ rec.now }
+    {
+        Satellite {
+            rec: *rec,
+            orbit: prepare(rec),
+        }
+    }
+
+    /// Its number.
+    pub(crate) fn prn(&self) -> u8
+        ensures { result ≡ self.now.prn }
+    {
+        self.rec.prn
+    }
+
+    /// Whether it counts at the millisecond `t`.
+    pub(crate) fn usable_at(&self, outages: &[Outage], t: i64) -> bool
+        ensures { result ≡ is_usable outages.now t self.now }
+    {
+        usable(&self.rec, outages, t)
+    }
+
+    /// Where it is from the millisecond `first` to `last`.
+    pub(crate) fn position(&self, first: i64, last: i64) -> [Iv; 3]
+        requires order { first ≤ℤ last }
+        requires first_applicable { IsApplicable self.now first }
+        requires last_applicable { IsApplicable self.now last }
+        ensures exact { vector_ends result ≡ position_of self.now first last }
+        ensures bound { VectorBelow (vector_ends result) (2 ^ 46) }
+    {
+        position(&self.orbit, first, last)
+    }
+}

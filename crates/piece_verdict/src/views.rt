@@ -1,0 +1,64 @@
+// What is seen over a piece of time of a case's flight.
+ghost use Rattle.std.specs.Prelude.{◌≡◌, ◌≤ℤ◌};
+ghost use Rattle.raim_model.specs.declared.almanac.AlmRecord.{AlmRecord};
+ghost use Rattle.raim_model.specs.CaseCuts.{MayBeJudged};
+ghost use Rattle.raim_model.specs.PointVerdict.{least_count};
+ghost use Rattle.site_laws.specs.Frames.{IsFrame};
+ghost use Rattle.wgs_position.specs.Frames.{frame_ends};
+ghost use Rattle.case_laws.specs.PieceVerdict.{seen_of};
+ghost use Rattle.case_laws.specs.SightOver.{mask_of, sight_over};
+ghost use Rattle.piece_verdict.specs.Looks.{AreLooks};
+ghost use Rattle.piece_verdict.specs.Seen.{IsSeen};
+ghost use Rattle.piece_verdict.specs.Views.{seen_from};
+
+use crate::case::Case;
+use crate::legs::leg;
+use crate::looks::Looks;
+use crate::seen::Seen;
+use crate::sights::sights;
+use crate::slopes::needed;
+use almanac_choice::in_force_at;
+use leg_place::place_over;
+use wgs_position::{SiteFrame, frame};
+
+impl Case {
+    /// The frame of the receiver over a piece.
+    fn receiver(&self, first: i64, last: i64) -> SiteFrame
+        requires ordered { first ≤ℤ last }
+        requires rule { MayBeJudged self.now first last }
+        ensures exact { (rec : AlmRecord) → seen_from (frame_ends result) (mask_of self.now.limits) self.now.limits.weights.items first last rec ≡ sight_over self.now rec first last }
+        ensures frame { IsFrame (frame_ends result) }
+    {
+        let leg = leg(&self.route, first);
+        frame(&place_over(&self.route, leg, first, last))
+    }
+
+    /// What is seen over a piece of the satellites that are usable.
+    fn seen(&self, first: i64, last: i64) -> Seen
+        requires ordered { first ≤ℤ last }
+        requires rule { MayBeJudged self.now first last }
+        ensures { IsSeen result (seen_of self.now first last) }
+    {
+        let frame = self.receiver(first, last);
+        let place = in_force_at(self.times.as_slice(), first);
+        sights(
+            self.constellations[place].satellites(),
+            self.outages.as_slice(),
+            self.limits.weights.as_slice(),
+            &frame,
+            self.mask,
+            first,
+            last,
+        )
+    }
+
+    /// What the test makes of it.
+    pub(crate) fn looked(&self, first: i64, last: i64) -> Looks
+        requires ordered { first ≤ℤ last }
+        requires rule { MayBeJudged self.now first last }
+        ensures { AreLooks (least_count self.now.limits.exclude) (seen_of self.now first last) result }
+    {
+        let needed = needed(&self.limits);
+        self.seen(first, last).looks(needed)
+    }
+}
