@@ -14,14 +14,42 @@ pub(crate) fn circle() -> AlmRecord
     AlmRecord {
         prn: 5,
         health: 0,
-        e: Dec::ZERO,
+        e: Dec {
+            neg: false,
+            digits: 0,
+            places: 0,
+        },
         toa_ms: 1414022400000,
-        incl: Angle::Semi30(Dec::new(false, 2, 1)),
-        rate: Angle::Semi(Dec::ZERO),
-        sqrt_a: Dec::new(false, 51536, 1),
-        omega0: Angle::Semi(Dec::ZERO),
-        perigee: Angle::Semi(Dec::ZERO),
-        m0: Angle::Semi(Dec::ZERO),
+        incl: Angle::Semi30(Dec {
+            neg: false,
+            digits: 2,
+            places: 1,
+        }),
+        rate: Angle::Semi(Dec {
+            neg: false,
+            digits: 0,
+            places: 0,
+        }),
+        sqrt_a: Dec {
+            neg: false,
+            digits: 51536,
+            places: 1,
+        },
+        omega0: Angle::Semi(Dec {
+            neg: false,
+            digits: 0,
+            places: 0,
+        }),
+        perigee: Angle::Semi(Dec {
+            neg: false,
+            digits: 0,
+            places: 0,
+        }),
+        m0: Angle::Semi(Dec {
+            neg: false,
+            digits: 0,
+            places: 0,
+        }),
     }
 }
 
@@ -34,14 +62,42 @@ pub(crate) fn yuma() -> AlmRecord
     AlmRecord {
         prn: 1,
         health: 0,
-        e: Dec::new(false, 1086759567, 11),
+        e: Dec {
+            neg: false,
+            digits: 1086759567,
+            places: 11,
+        },
         toa_ms: 1414427904000,
-        incl: Angle::Rad(Dec::new(false, 96013574, 8)),
-        rate: Angle::Rad(Dec::new(true, 8126052768, 18)),
-        sqrt_a: Dec::new(false, 5153636719, 6),
-        omega0: Angle::Rad(Dec::new(false, 1296372856, 9)),
-        perigee: Angle::Rad(Dec::new(false, 812318933, 9)),
-        m0: Angle::Rad(Dec::new(true, 9442756846, 10)),
+        incl: Angle::Rad(Dec {
+            neg: false,
+            digits: 96013574,
+            places: 8,
+        }),
+        rate: Angle::Rad(Dec {
+            neg: true,
+            digits: 8126052768,
+            places: 18,
+        }),
+        sqrt_a: Dec {
+            neg: false,
+            digits: 5153636719,
+            places: 6,
+        },
+        omega0: Angle::Rad(Dec {
+            neg: false,
+            digits: 1296372856,
+            places: 9,
+        }),
+        perigee: Angle::Rad(Dec {
+            neg: false,
+            digits: 812318933,
+            places: 9,
+        }),
+        m0: Angle::Rad(Dec {
+            neg: true,
+            digits: 9442756846,
+            places: 10,
+        }),
     }
 }
 
@@ -54,14 +110,42 @@ pub(crate) fn sem() -> AlmRecord
     AlmRecord {
         prn: 24,
         health: 0,
-        e: Dec::new(false, 1, 2),
+        e: Dec {
+            neg: false,
+            digits: 1,
+            places: 2,
+        },
         toa_ms: 1414022400000,
-        incl: Angle::Semi30(Dec::new(false, 56, 4)),
-        rate: Angle::Semi(Dec::new(true, 26, 10)),
-        sqrt_a: Dec::new(false, 51536, 1),
-        omega0: Angle::Semi(Dec::new(true, 6667, 4)),
-        perigee: Angle::Semi(Dec::new(false, 25, 2)),
-        m0: Angle::Semi(Dec::new(false, 9165, 4)),
+        incl: Angle::Semi30(Dec {
+            neg: false,
+            digits: 56,
+            places: 4,
+        }),
+        rate: Angle::Semi(Dec {
+            neg: true,
+            digits: 26,
+            places: 10,
+        }),
+        sqrt_a: Dec {
+            neg: false,
+            digits: 51536,
+            places: 1,
+        },
+        omega0: Angle::Semi(Dec {
+            neg: true,
+            digits: 6667,
+            places: 4,
+        }),
+        perigee: Angle::Semi(Dec {
+            neg: false,
+            digits: 25,
+            places: 2,
+        }),
+        m0: Angle::Semi(Dec {
+            neg: false,
+            digits: 9165,
+            places: 4,
+        }),
     }
 }
 
@@ -74,14 +158,42 @@ pub(crate) fn extreme() -> AlmRecord
     AlmRecord {
         prn: 32,
         health: 0,
-        e: Dec::new(false, 3125, 5),
+        e: Dec {
+            neg: false,
+            digits: 3125,
+            places: 5,
+        },
         toa_ms: -123456789,
-        incl: Angle::Rad(Dec::new(false, 31415926535898, 13)),
-        rate: Angle::Rad(Dec::new(true, 1, 6)),
-        sqrt_a: Dec::new(false, 7000, 0),
-        omega0: Angle::Rad(Dec::new(true, 10, 0)),
-        perigee: Angle::Rad(Dec::new(false, 10, 0)),
-        m0: Angle::Rad(Dec::new(true, 10, 0)),
+        incl: Angle::Rad(Dec {
+            neg: false,
+            digits: 31415926535898,
+            places: 13,
+        }),
+        rate: Angle::Rad(Dec {
+            neg: true,
+            digits: 1,
+            places: 6,
+        }),
+        sqrt_a: Dec {
+            neg: false,
+            digits: 7000,
+            places: 0,
+        },
+        omega0: Angle::Rad(Dec {
+            neg: true,
+            digits: 10,
+            places: 0,
+        }),
+        perigee: Angle::Rad(Dec {
+            neg: false,
+            digits: 10,
+            places: 0,
+        }),
+        m0: Angle::Rad(Dec {
+            neg: true,
+            digits: 10,
+            places: 0,
+        }),
     }
 }
 
@@ -94,14 +206,42 @@ pub(crate) fn fast() -> AlmRecord
     AlmRecord {
         prn: 31,
         health: 0,
-        e: Dec::new(false, 3125, 5),
+        e: Dec {
+            neg: false,
+            digits: 3125,
+            places: 5,
+        },
         toa_ms: -1,
-        incl: Angle::Semi30(Dec::new(true, 5, 2)),
-        rate: Angle::Semi(Dec::new(false, 1, 6)),
-        sqrt_a: Dec::new(false, 40005, 1),
-        omega0: Angle::Semi(Dec::new(false, 39, 1)),
-        perigee: Angle::Semi(Dec::new(true, 35, 1)),
-        m0: Angle::Semi(Dec::new(true, 4, 0)),
+        incl: Angle::Semi30(Dec {
+            neg: true,
+            digits: 5,
+            places: 2,
+        }),
+        rate: Angle::Semi(Dec {
+            neg: false,
+            digits: 1,
+            places: 6,
+        }),
+        sqrt_a: Dec {
+            neg: false,
+            digits: 40005,
+            places: 1,
+        },
+        omega0: Angle::Semi(Dec {
+            neg: false,
+            digits: 39,
+            places: 1,
+        }),
+        perigee: Angle::Semi(Dec {
+            neg: true,
+            digits: 35,
+            places: 1,
+        }),
+        m0: Angle::Semi(Dec {
+            neg: true,
+            digits: 4,
+            places: 0,
+        }),
     }
 }
 
@@ -114,14 +254,42 @@ pub(crate) fn late() -> AlmRecord
     AlmRecord {
         prn: 7,
         health: 0,
-        e: Dec::new(false, 2, 2),
+        e: Dec {
+            neg: false,
+            digits: 2,
+            places: 2,
+        },
         toa_ms: 1414022399999,
-        incl: Angle::Rad(Dec::new(false, 96, 2)),
-        rate: Angle::Rad(Dec::new(true, 81, 10)),
-        sqrt_a: Dec::new(false, 51537, 1),
-        omega0: Angle::Rad(Dec::new(true, 225, 2)),
-        perigee: Angle::Rad(Dec::new(false, 31, 1)),
-        m0: Angle::Rad(Dec::new(false, 175, 2)),
+        incl: Angle::Rad(Dec {
+            neg: false,
+            digits: 96,
+            places: 2,
+        }),
+        rate: Angle::Rad(Dec {
+            neg: true,
+            digits: 81,
+            places: 10,
+        }),
+        sqrt_a: Dec {
+            neg: false,
+            digits: 51537,
+            places: 1,
+        },
+        omega0: Angle::Rad(Dec {
+            neg: true,
+            digits: 225,
+            places: 2,
+        }),
+        perigee: Angle::Rad(Dec {
+            neg: false,
+            digits: 31,
+            places: 1,
+        }),
+        m0: Angle::Rad(Dec {
+            neg: false,
+            digits: 175,
+            places: 2,
+        }),
     }
 }
 
@@ -134,14 +302,42 @@ pub(crate) fn published_yuma() -> AlmRecord
     AlmRecord {
         prn: 2,
         health: 0,
-        e: Dec::new(false, 9608650696, 12),
+        e: Dec {
+            neg: false,
+            digits: 9608650696,
+            places: 12,
+        },
         toa_ms: 962037504000,
-        incl: Angle::Rad(Dec::new(false, 9393661061, 10)),
-        rate: Angle::Rad(Dec::new(true, 8186769583, 18)),
-        sqrt_a: Dec::new(false, 5153599472, 6),
-        omega0: Angle::Rad(Dec::new(true, 127509041, 8)),
-        perigee: Angle::Rad(Dec::new(false, 3097910679, 9)),
-        m0: Angle::Rad(Dec::new(true, 2171226212, 9)),
+        incl: Angle::Rad(Dec {
+            neg: false,
+            digits: 9393661061,
+            places: 10,
+        }),
+        rate: Angle::Rad(Dec {
+            neg: true,
+            digits: 8186769583,
+            places: 18,
+        }),
+        sqrt_a: Dec {
+            neg: false,
+            digits: 5153599472,
+            places: 6,
+        },
+        omega0: Angle::Rad(Dec {
+            neg: true,
+            digits: 127509041,
+            places: 8,
+        }),
+        perigee: Angle::Rad(Dec {
+            neg: false,
+            digits: 3097910679,
+            places: 9,
+        }),
+        m0: Angle::Rad(Dec {
+            neg: true,
+            digits: 2171226212,
+            places: 9,
+        }),
     }
 }
 
@@ -154,13 +350,41 @@ pub(crate) fn published_sem() -> AlmRecord
     AlmRecord {
         prn: 2,
         health: 0,
-        e: Dec::new(false, 9608650696460001, 18),
+        e: Dec {
+            neg: false,
+            digits: 9608650696460001,
+            places: 18,
+        },
         toa_ms: 962037504000,
-        incl: Angle::Semi30(Dec::new(true, 9904816805941796, 19)),
-        rate: Angle::Semi(Dec::new(true, 2605929694254038, 24)),
-        sqrt_a: Dec::new(false, 515359947205, 8),
-        omega0: Angle::Semi(Dec::new(true, 4058738833407042, 16)),
-        perigee: Angle::Semi(Dec::new(false, 9860955956400375, 16)),
-        m0: Angle::Semi(Dec::new(true, 6911227684553344, 16)),
+        incl: Angle::Semi30(Dec {
+            neg: true,
+            digits: 9904816805941796,
+            places: 19,
+        }),
+        rate: Angle::Semi(Dec {
+            neg: true,
+            digits: 2605929694254038,
+            places: 24,
+        }),
+        sqrt_a: Dec {
+            neg: false,
+            digits: 515359947205,
+            places: 8,
+        },
+        omega0: Angle::Semi(Dec {
+            neg: true,
+            digits: 4058738833407042,
+            places: 16,
+        }),
+        perigee: Angle::Semi(Dec {
+            neg: false,
+            digits: 9860955956400375,
+            places: 16,
+        }),
+        m0: Angle::Semi(Dec {
+            neg: true,
+            digits: 6911227684553344,
+            places: 16,
+        }),
     }
 }

@@ -15,14 +15,42 @@ fn record_of() -> AlmRecord
     AlmRecord {
         prn: 24,
         health: 0,
-        e: Dec::new(false, 1, 2),
+        e: Dec {
+            neg: false,
+            digits: 1,
+            places: 2,
+        },
         toa_ms: 1414022400000,
-        incl: Angle::Semi30(Dec::new(false, 56, 4)),
-        rate: Angle::Semi(Dec::new(true, 26, 10)),
-        sqrt_a: Dec::new(false, 51536, 1),
-        omega0: Angle::Semi(Dec::new(true, 6667, 4)),
-        perigee: Angle::Semi(Dec::new(false, 25, 2)),
-        m0: Angle::Semi(Dec::new(false, 9165, 4)),
+        incl: Angle::Semi30(Dec {
+            neg: false,
+            digits: 56,
+            places: 4,
+        }),
+        rate: Angle::Semi(Dec {
+            neg: true,
+            digits: 26,
+            places: 10,
+        }),
+        sqrt_a: Dec {
+            neg: false,
+            digits: 51536,
+            places: 1,
+        },
+        omega0: Angle::Semi(Dec {
+            neg: true,
+            digits: 6667,
+            places: 4,
+        }),
+        perigee: Angle::Semi(Dec {
+            neg: false,
+            digits: 25,
+            places: 2,
+        }),
+        m0: Angle::Semi(Dec {
+            neg: false,
+            digits: 9165,
+            places: 4,
+        }),
     }
 }
 

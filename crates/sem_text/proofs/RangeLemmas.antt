@@ -2,7 +2,6 @@
 use Rattle.std.proofs.Common.{◌≡◌, ◌≤◌, ℕ, ℤ, pos, neg_ℤ, true, false, suc, zero, List, [], ◌∷◌, length, map, unsigned_abs, nat_lt, Ok, refl, subst, inr, arith, All}
 use Rattle.fractions.specs.Fraction.{ratio, ◌≤ᶠ◌}
 use Rattle.fractions.proofs.Ratios.{ratio-same}
-use Rattle.raim_model.specs.declared.TextWhy.{TextWhy}
 use Rattle.raim_model.specs.declared.TextWhy.TheVariants as why
 use Rattle.raim_model.specs.declared.AlmRecord.{AlmRecord}
 use Rattle.raim_model.specs.declared.Dec.{Dec}

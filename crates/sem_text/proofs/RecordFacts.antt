@@ -10,7 +10,6 @@ use Rattle.text_lines.specs.Lines.{Text}
 use Rattle.sem_text.specs.declared.line_kind.LineKind.{LineKind}
 use Rattle.sem_text.specs.declared.line_kind.LineKind.TheVariants as kind
 use Rattle.sem_text.specs.declared.entry.Entry.{Entry}
-use Rattle.sem_text.specs.declared.entry.Entry.TheVariants as entry
 use Rattle.sem_text.specs.Sem.{Said, current_after}
 use Rattle.sem_text.specs.Almanac.{prn_at, unused_at, eccentricity_inclination_rate_at, sqrt_a_right_ascension_perigee_at, mean_anomaly_and_clock_at, health_at, record_at}
 use Rattle.sem_text.proofs.LineFacts.{SaysLine}

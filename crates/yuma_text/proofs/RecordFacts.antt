@@ -11,7 +11,6 @@ use Rattle.text_lines.specs.Fields.{◌>>=◌}
 use Rattle.yuma_text.specs.declared.line_kind.LineKind.{LineKind}
 use Rattle.yuma_text.specs.declared.line_kind.LineKind.TheVariants as kind
 use Rattle.yuma_text.specs.declared.record_entry.RecordEntry.{RecordEntry}
-use Rattle.yuma_text.specs.declared.record_entry.RecordEntry.TheVariants as entry
 use Rattle.yuma_text.specs.Records.{RecordsSaid, current_after, time_after}
 use Rattle.yuma_text.specs.Almanac.{title_at, prn_at, health_at, eccentricity_at, time_at, inclination_at, rate_at, sqrt_a_at, angle_at, clock_at, toa_at, record_at}
 use Rattle.yuma_text.proofs.LineFacts.{SaysLine}
