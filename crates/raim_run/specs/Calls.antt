@@ -1,5 +1,5 @@
 -- The calls that a run makes on the desk, by its status.
-use Rattle.std.specs.Prelude.{◌≡◌, ◌⊎◌, ℕ, List, [], Option, Some, None, Result, Ok, Err}
+use Rattle.std.specs.Prelude.{◌≡◌, ◌⊎◌, List, [], Option, Some, None, Result, Ok, Err}
 use Rattle.raim_model.specs.declared.FileNo.TheVariants.{Almanac}
 use Rattle.raim_model.specs.declared.TextWhy.TheVariants.{FileTooLong}
 use Rattle.raim_base.specs.Calls.{Call, ReadsToEnd, ReadsAFront, FailsLast}

@@ -1,4 +1,4 @@
-use Rattle.std.proofs.Common.{◌++◌, ◌∷◌, [], List, Option, true, false, ◌∙◌, refl, sym, subst}
+use Rattle.std.proofs.Common.{◌++◌, ◌∷◌, [], List, Option, ◌∙◌, refl, sym, subst}
 use Rattle.raim_model.specs.declared.Span.{Span}
 use Rattle.raim_model.specs.declared.TextFault.{TextFault}
 use Rattle.text_lines.specs.Lines.{Text}
