@@ -1,6 +1,6 @@
 -- Places in a store of pairs, and what the store holds with one row more.
-use Rattle.std.specs.Prelude.{◌≡◌, ◌≢◌, ℕ, zero, suc, ◌+◌, ◌-◌, ◌<◌, ◌≤◌, Bool, true, false, nat_lt, nat_eq, List, length, slice_index_or, slice_set, refl}
-use Rattle.std.proofs.Common.{arith, ap, sym, ◌∙◌, subst}
+use Rattle.std.specs.Prelude.{◌≡◌, ℕ, zero, suc, ◌+◌, ◌-◌, ◌<◌, ◌≤◌, Bool, true, false, nat_lt, List, length, slice_index_or, slice_set, refl}
+use Rattle.std.proofs.Common.{arith, ap, ◌∙◌, subst}
 use Rattle.std.proofs.lemmas.Bool.Decides.{nat_tests}
 use Rattle.std.proofs.lemmas.List.{get_or-set_other}
 use Rattle.std.proofs.lemmas.Grind.{get_or-set_at}
@@ -9,7 +9,6 @@ use Rattle.fix_interval.specs.Intervals.{ends_64}
 use Rattle.geometry_laws.specs.Without.{without}
 use Rattle.geom_laws.specs.Rows.{RowEnds}
 use Rattle.slope_laws.specs.ShiftSlopes.{determinant_of}
-use Rattle.slope_test.specs.Determinants.{AreDeterminants}
 use Rattle.slope_test.proofs.Withouts.{without_two}
 use Rattle.exclusion_subsets.specs.Pairs.{below, ArePairs}
 

@@ -1,6 +1,6 @@
 -- The bias at a place of the table, and past its end; and the square of a ratio.
-use Rattle.std.specs.Prelude.{◌≡◌, ℕ, zero, suc, ℤ, pos, ◌+◌, ◌-◌, ◌*◌, ◌*ℤ◌, ◌<◌, ◌≤◌, List, [], ◌∷◌, length, slice_index_or, refl}
-use Rattle.std.proofs.Common.{arith, ap, ap₂, ◌∙◌}
+use Rattle.std.specs.Prelude.{◌≡◌, ℕ, zero, suc, pos, ◌+◌, ◌-◌, ◌*◌, ◌*ℤ◌, ◌<◌, ◌≤◌, List, [], ◌∷◌, length, slice_index_or, refl}
+use Rattle.std.proofs.Common.{arith, ap₂, ◌∙◌}
 use Rattle.std.proofs.lemmas.Int.{ints}
 use Rattle.fractions.specs.Fraction.{Fraction, ratio, whole, ◌*ᶠ◌}
 use Rattle.fractions.proofs.Quote.{identity, quote}

@@ -1,5 +1,4 @@
-use Rattle.std.proofs.Common.{rules, ◌≡◌, ◌+◌, ◌<◌, ◌≤◌, arith, ap, sym, subst, ◌∙◌, length, List, ℕ}
-use Rattle.fix_interval.specs.declared.Iv64.{Iv64}
+use Rattle.std.proofs.Common.{rules, ◌≡◌, ◌+◌, ◌<◌, arith, ap, sym, subst, ◌∙◌, length, List}
 use Rattle.slope_test.specs.Determinants.{AreDeterminants}
 use Rattle.fix_interval.specs.Intervals.{ends}
 use Rattle.geometry_laws.specs.Without.{without}

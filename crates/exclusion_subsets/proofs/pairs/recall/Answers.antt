@@ -1,8 +1,4 @@
-use Rattle.std.proofs.Common.{◌≡◌, ◌+◌, ◌<◌, arith, ap, ◌∙◌, ℕ, length}
-use Rattle.std.specs.Prelude.{slice_index_or}
-use Rattle.std.proofs.lemmas.List.{length-map, length-set}
-use Rattle.geom_inverse.specs.Views.{row_ends, rows_ends}
-use Rattle.exclusion_subsets.specs.Pairs.{below}
+use Rattle.std.proofs.Common.{arith}
 use Rattle.exclusion_subsets.proofs.Places.{in_room}
 use Rattle.exclusion_subsets.proofs.pairs.recall.Goals as goal
 

@@ -1,5 +1,5 @@
 -- the first i entries are copied
-use Rattle.std.proofs.Common.{◌≡◌, ◌≤◌, length}
+use Rattle.std.proofs.Common.{◌≡◌, length}
 use Rattle.geometry_laws.specs.Without.{without}
 use Rattle.geom_inverse.specs.Views.{rows_ends}
 use Rattle.slope_test.specs.Determinants.{AreDeterminants}

@@ -1,9 +1,8 @@
-use Rattle.std.proofs.Common.{rules, ◌≡◌, ◌+◌, ◌<◌, ◌≤◌, arith, ap, sym, ◌∙◌, ℕ, length}
+use Rattle.std.proofs.Common.{rules, ◌≡◌, ◌+◌, arith, ap, ◌∙◌, ℕ, length}
 use Rattle.std.specs.Prelude.{slice_index_or}
 use Rattle.std.proofs.lemmas.List.{length-map, length-set}
 use Rattle.fix_interval.specs.Intervals.{ends_64}
 use Rattle.geom_inverse.specs.Views.{row_ends, rows_ends}
-use Rattle.exclusion_subsets.specs.Pairs.{below}
 use Rattle.exclusion_subsets.proofs.Places.{below_next, in_room, few_below, behind_none, behind_more, behind_all}
 use Rattle.exclusion_subsets.proofs.pairs.remember.Goals as goal
 

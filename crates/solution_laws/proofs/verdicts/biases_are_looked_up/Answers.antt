@@ -1,6 +1,3 @@
-use Rattle.std.specs.Prelude.{◌≡◌, slice_index_or, length, ◌-◌}
-use Rattle.std.proofs.Common.{subst, sym}
-use Rattle.raim_model.specs.PointVerdict.{entry_or_last}
 use Rattle.solution_laws.proofs.Biases.{at_place, past_the_end, after_five}
 use Rattle.solution_laws.proofs.verdicts.biases_are_looked_up.Goals as goal
 
