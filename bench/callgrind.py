@@ -7,7 +7,7 @@ LONGEST = 1_048_576
 
 
 def count(words, folder=None):
-    """The instructions of a program's run in a folder, what it printed, and its status."""
+    """The instructions of a program's run in a folder, and what it printed."""
     done = subprocess.run(
         ["valgrind", "--tool=callgrind", "--callgrind-out-file=/dev/null", *map(str, words)],
         capture_output=True, text=True, check=False, cwd=folder,
@@ -15,7 +15,7 @@ def count(words, folder=None):
     found = re.search(r"Collected : (\d+)", done.stderr)
     if found is None:
         sys.exit("no count from valgrind: " + done.stderr[-500:])
-    return int(found.group(1)), done.stdout.strip(), done.returncode
+    return int(found.group(1)), done.stdout.strip()
 
 
 def padded(front, filler):
@@ -30,7 +30,7 @@ def worst_of(contents, least, run, show):
     """
     worst = 0.0
     for name, content in contents.items():
-        assert len(content) <= LONGEST + 1, (name, len(content))
+        assert len(content) <= LONGEST, (name, len(content))
         instructions, found = run(content)
         each = (instructions - least) / len(content)
         worst = max(worst, each)

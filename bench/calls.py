@@ -43,8 +43,8 @@ def main():
     status = 0
     for kind in sys.argv[1:] or KINDS:
         calls, each, most = KINDS[kind]
-        instructions, printed, _ = count([PROGRAM, kind, calls])
-        least, _, _ = count([PROGRAM, kind, 0])
+        instructions, printed = count([PROGRAM, kind, calls])
+        least, _ = count([PROGRAM, kind, 0])
         taken = (instructions - least) / (calls * each)
         good = printed == line(kind, calls) and taken <= most
         status |= not good

@@ -99,8 +99,7 @@ ALMANACS = {
 def run(path, form, content):
     """The instructions, and what the program answers, for an almanac of this content."""
     path.write_bytes(content)
-    instructions, answer, _ = count([PROGRAM, form, path.name], path.parent)
-    return instructions, answer
+    return count([PROGRAM, form, path.name], path.parent)
 
 
 def main():

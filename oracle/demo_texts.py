@@ -63,4 +63,5 @@ def main():
     print("\n\n".join(parts))
 
 
-main()
+if __name__ == "__main__":
+    main()

@@ -5,7 +5,7 @@ use Rattle.raim_model.specs.declared.Span.{Span}
 use Rattle.raim_model.specs.declared.TextWhy.{TextWhy}
 use Rattle.text_lines.specs.Lines.{Text}
 use Rattle.text_lines.proofs.ReaderLemmas.{refused_more}
-use Rattle.yuma_text.specs.Records.{yuma_records}
+use Rattle.yuma_text.specs.Yuma.{yuma_records}
 use Rattle.sem_text.specs.Sem.{sem_records}
 use Rattle.alm_reader.specs.declared.choice.Choice.{Choice}
 use Rattle.alm_reader.specs.declared.choice.Choice.TheVariants.{Yuma, Sem}

@@ -26,10 +26,10 @@ use slope_laws::{Shift, SubsetVerdict};
 use slope_test::detect_from;
 
 /// In the place of a determinant that is not known yet.
-const NONE: Iv64 = Iv64 { lo: 0, hi: 1 };
+pub(crate) const NONE: Iv64 = Iv64 { lo: 0, hi: 1 };
 
 /// The verdict of a list without the satellite `prn`.
-fn name_without(prn: u8, verdict: SubsetVerdict) -> SubsetVerdict
+pub(crate) fn name_without(prn: u8, verdict: SubsetVerdict) -> SubsetVerdict
     ensures { result ≡ named_without prn verdict }
 {
     match verdict {
@@ -42,7 +42,7 @@ fn name_without(prn: u8, verdict: SubsetVerdict) -> SubsetVerdict
 }
 
 /// Whether a list passes.
-fn passes(verdict: SubsetVerdict) -> bool
+pub(crate) fn passes(verdict: SubsetVerdict) -> bool
     ensures { result ≡ is_pass verdict }
 {
     matches!(verdict, SubsetVerdict::Pass)
@@ -50,7 +50,7 @@ fn passes(verdict: SubsetVerdict) -> bool
 
 /// The verdict on the list `rest` without the row at place `j`, where the sums over all rows, the determinant of `rest` and those
 /// of `rest` without each of its first `known` rows are at hand. Where it is Pass, those of `rest` without the others are added.
-fn subset(
+pub(crate) fn subset(
     shift: Shift,
     rows: &[Row],
     all: &Sym4,

@@ -10,5 +10,7 @@ mod exclusion;
 mod pairs;
 #[cfg(test)]
 mod tests;
+mod told;
 
 pub use exclusion::{exclude, exclude_over};
+pub use told::exclude_over_told;

@@ -1,5 +1,5 @@
 -- What the casts between signed and unsigned numbers give at days and milliseconds, which fit both.
-use Rattle.std.proofs.Common.{◌≡◌, ℕ, ◌+◌, ◌<◌, refl, arith, ℤ, pos, negsuc, ◌+ℤ◌, ◌-ℤ◌, ◌≤ℤ◌, FitsSigned, to_z, of_z, w32, w64, unsigned_abs}
+use Rattle.std.proofs.Common.{◌≡◌, ℕ, ◌+◌, ◌<◌, refl, arith, ℤ, pos, negsuc, ◌+ℤ◌, ◌-ℤ◌, ◌≤ℤ◌, ◌<ℤ◌, neg_ℤ, FitsSigned, to_z, of_z, w32, w64, unsigned_abs}
 use Rattle.std.proofs.lemmas.Int.{to_z-of_z, to_z_pos}
 use Rattle.jiff_core.specs.Calendar.{IsEpochDay}
 use Rattle.jiff_core.proofs.SignedLemmas.{signed_arith}
@@ -30,3 +30,9 @@ pub instant_kept : (leap : ℕ) (ms : ℤ) → leap < 256 → IsInstant leap ms 
 instant_kept leap ms few instant =
     let fits : FitsSigned w64 ms = omega (arith, signed_arith, few, instant.0, instant.1) in
     to_z-of_z w64 ms fits
+
+-- a number of milliseconds or of days, as it is kept in 64 bits
+pub kept_small : (z : ℤ) → neg_ℤ (pos 400000000000000) ≤ℤ z → z <ℤ pos 400000000000000 → to_z w64 (of_z w64 z) ≡ z
+kept_small z low high =
+    let fits : FitsSigned w64 z = omega (arith, signed_arith, low, high) in
+    to_z-of_z w64 z fits

@@ -1,5 +1,5 @@
 -- The tests at the two ends of the bracket, and at neighbours.
-use Rattle.std.specs.Prelude.{◌≡◌, ℤ, pos, ◌^◌, neg_ℤ, ◌+ℤ◌, ◌-ℤ◌, ◌≤ℤ◌, ◌<ℤ◌, Bool, true, false, not, refl}
+use Rattle.std.specs.Prelude.{◌≡◌, ℤ, pos, ◌^◌, neg_ℤ, ◌+ℤ◌, ◌-ℤ◌, ◌≤ℤ◌, ◌<ℤ◌, Bool, true, false, not}
 use Rattle.std.proofs.Common.{arith, ap}
 use Rattle.std.proofs.lemmas.Int.{ints}
 use Rattle.fix_interval.specs.Ends.{Ends}

@@ -11,6 +11,7 @@ ghost use Rattle.kepler_laws.specs.Anomalies.{IsEccentricityInTurns, IsWithinHal
 ghost use Rattle.kepler_bracket.specs.Eccentricities.{eccentricity_ends};
 
 use crate::eccentricity::EccentricityInTurns;
+use crate::lead::Lead;
 use crate::search::{greatest_below, least_above};
 use fix_interval::Iv;
 
@@ -55,7 +56,9 @@ pub fn anomalies(m: Iv, eps: Iv) -> Iv
     let eccentricity = eccentricity_of(eps);
     let first = m.lo as i64;
     let last = m.hi as i64;
-    let low = greatest_below(eccentricity, first);
-    let high = least_above(eccentricity, last, low + (last - first));
+    let lead = Lead::near(eccentricity, first);
+    let low = greatest_below(eccentricity, first, lead);
+    let start = low + lead.ahead(last - first);
+    let high = least_above(eccentricity, last, start, lead);
     unit_outward(low, high)
 }

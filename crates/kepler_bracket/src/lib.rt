@@ -3,7 +3,7 @@
 //!
 //! The contracts fix each answer by the definition in `kepler_laws`, and its ends also as the greatest and the least number
 //! that passes a test, so the search for them is free: each probe is tested as the definition tests it, and the next one is
-//! where the equation, taken as exact, has its solution.
+//! about where the equation has its solution.
 #![tactic(auto)]
 
 mod anomaly;
@@ -11,6 +11,7 @@ mod anomaly;
 mod cases;
 mod eccentricity;
 mod ends;
+mod lead;
 mod mean;
 mod mean_tests;
 mod search;

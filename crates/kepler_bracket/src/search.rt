@@ -1,11 +1,12 @@
 // The ends of the eccentric anomalies, looked for between the ends of a bracket. A probe decides one side of it; the next one
-// is where the mean anomaly would be the wanted one, if it rose as fast as the eccentric one.
+// is where the mean anomaly is about the wanted one.
 
 ghost use Rattle.std.specs.Prelude.{◌≡◌, pos, neg_ℤ, ◌^◌, ◌≤ℤ◌, not};
 ghost use Rattle.kepler_laws.specs.Anomalies.{bracket, is_below, is_above, IsGreatest, IsLeast};
 ghost use Rattle.kepler_bracket.specs.Eccentricities.{eccentricity_ends};
 
 use crate::eccentricity::EccentricityInTurns;
+use crate::lead::Lead;
 use crate::mean::{mean_high, mean_low};
 use crate::mean_tests::{MayBeBelow, MustBeBelow};
 use fix_interval::{Probe, UNITS_IN_ONE, last_passing};
@@ -20,9 +21,9 @@ impl Probe for MustBeBelow {
     fn probe(&self, k: i64) -> (bool, i64) {
         let mean = mean_high(self.eps, k);
         if mean <= self.mean {
-            (true, k + (self.mean - mean).max(1))
+            (true, k + self.lead.ahead(self.mean - mean))
         } else {
-            (false, k - (mean - self.mean))
+            (false, k - self.lead.ahead(mean - self.mean))
         }
     }
 }
@@ -34,27 +35,27 @@ impl Probe for MayBeBelow {
     fn probe(&self, k: i64) -> (bool, i64) {
         let mean = mean_low(self.eps, k);
         if mean < self.mean {
-            (true, k + (self.mean - mean))
+            (true, k + self.lead.ahead(self.mean - mean))
         } else {
-            (false, k - (mean - self.mean).max(1))
+            (false, k - self.lead.ahead(mean - self.mean))
         }
     }
 }
 
 /// The greatest number whose mean anomaly is certainly at most `mean`.
-pub(crate) fn greatest_below(eps: EccentricityInTurns, mean: i64) -> i64
+pub(crate) fn greatest_below(eps: EccentricityInTurns, mean: i64, lead: Lead) -> i64
     requires low { neg_ℤ (pos (2 ^ 37)) ≤ℤ mean }
     requires high { mean ≤ℤ pos (2 ^ 37) }
     ensures { IsGreatest (is_below (eccentricity_ends eps) mean) (neg_ℤ bracket) bracket result }
 {
-    last_passing(&MustBeBelow { eps, mean }, -BRACKET, BRACKET, mean)
+    last_passing(&MustBeBelow { eps, mean, lead }, -BRACKET, BRACKET, mean)
 }
 
 /// The least number whose mean anomaly is certainly at least `mean`, looked for from `start` on.
-pub(crate) fn least_above(eps: EccentricityInTurns, mean: i64, start: i64) -> i64
+pub(crate) fn least_above(eps: EccentricityInTurns, mean: i64, start: i64, lead: Lead) -> i64
     requires low { neg_ℤ (pos (2 ^ 37)) ≤ℤ mean }
     requires high { mean ≤ℤ pos (2 ^ 37) }
     ensures { IsLeast (is_above (eccentricity_ends eps) mean) (neg_ℤ bracket) bracket result }
 {
-    last_passing(&MayBeBelow { eps, mean }, -BRACKET, BRACKET, start) + 1
+    last_passing(&MayBeBelow { eps, mean, lead }, -BRACKET, BRACKET, start) + 1
 }

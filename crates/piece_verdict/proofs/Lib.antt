@@ -13,3 +13,5 @@ pub mod Whole
 pub mod WeightLemmas
 pub mod LooksLemmas
 pub mod Judged
+pub mod HiddenLemmas
+pub mod KnownLemmas

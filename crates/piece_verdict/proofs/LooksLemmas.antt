@@ -15,6 +15,7 @@ use Rattle.slope_test.specs.Named.{named}
 use Rattle.verdict_laws.specs.Sights.{Sight, Visible, Hidden, Straddles, Sighted, sighted_over, count_possible, or_straddling, first_straddling, with_row, rows_seen}
 use Rattle.verdict_laws.specs.Hold.{Shows, HoldsSights}
 use Rattle.verdict_laws.proofs.Seen.{AllLeave, count_left, SameSeen, same_seen}
+use Rattle.verdict_laws.proofs.Pieces.{all_leave, all_show}
 use Rattle.verdict_laws.proofs.Shown.{AllShow, RowsShown, rows_shown}
 use Rattle.case_laws.specs.PieceVerdict.{seen_of}
 use Rattle.case_laws.specs.SightOver.{sight_over}
@@ -24,13 +25,6 @@ use Rattle.piece_verdict.specs.declared.looks.Looks.TheVariants.{Few, Straddle, 
 use Rattle.piece_verdict.specs.Looks.{AreLooks, LeavesLooks, visible_prns, prns_of}
 
 -- ---- on each piece inside
--- record by record, what is seen over a piece is left to each piece inside
-all_leave : (c : Case) (sight : AlmRecord → ℤ → ℤ → Sight) → HoldsSights c sight → (first last a b : ℤ) → InRootPiece c first last → first ≤ℤ a → a ≤ℤ b → b ≤ℤ last
-    → (recs : List AlmRecord) → AllByRecursion (λ rec. IsListed c rec) recs → AllLeave (λ rec. sight rec first last) (λ rec. sight rec a b) recs
-all_leave c sight holds first last a b p low ordered high [] h = tt
-all_leave c sight holds first last a b p low ordered high (rec ∷ recs) h =
-    (holds.isotone first last a b p low ordered high rec h.0, all_leave c sight holds first last a b p low ordered high recs h.1)
-
 -- what is seen inside, by cases of what is seen over the wider piece
 leave : (n : ℕ) (wide inside : List Sighted) → count_possible inside ≤ count_possible wide → (first_straddling wide ≡ None → SameSeen wide inside)
     → (w i : Looks) → AreLooks n wide w → AreLooks n inside i → LeavesLooks w i
@@ -55,14 +49,6 @@ looks_leave c i first last a b p low ordered high n w x h k =
     (subst (λ recs. AreLooks n (sighted_over g recs) x) e k)
 
 -- ---- in every solution
--- record by record, what is seen over a piece shows the sightings at each of its milliseconds
-all_show : (c : Case) (sight : AlmRecord → ℤ → ℤ → Sight) → HoldsSights c sight → (first last t : ℤ) → InRootPiece c first last → first ≤ℤ t → t ≤ℤ last
-    → (N : Level) (leg : OnLeg c.route t) (receiver : ReceiverSolution N (place_on leg))
-    → (recs : List AlmRecord) → AllByRecursion (λ rec. IsListed c rec) recs → (s : Sightings N c t (site receiver) recs) → AllShow N c t (site receiver) (λ rec. sight rec first last) recs s
-all_show c sight holds first last t p low high N leg receiver [] h s = tt
-all_show c sight holds first last t p low high N leg receiver (rec ∷ recs) h s =
-    (holds.encloses first last t p low high N leg receiver rec h.0 s.0, all_show c sight holds first last t p low high N leg receiver recs h.1 s.1)
-
 -- those of a solution
 shown : (c : Case) → IsCase c → (first last t : ℤ) → InRootPiece c first last → first ≤ℤ t → t ≤ℤ last → (N : Level) (s : Solution N c t)
     → AllShow N c t (site s.receiver) (λ rec. sight_over c rec first last) (usable c t) s.sightings

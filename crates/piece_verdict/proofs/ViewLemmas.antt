@@ -1,9 +1,10 @@
 -- What is seen of one satellite more.
-use Rattle.std.specs.Prelude.{◌≡◌, ℕ, ◌+◌, ◌<◌, ◌≤◌, ℤ, Bool, true, false, List, [], ◌∷◌, ◌++◌, map, take, length, slice_index_or}
+use Rattle.std.specs.Prelude.{◌≡◌, ℕ, ◌+◌, ◌<◌, ◌≤◌, ℤ, Bool, true, false, List, [], ◌∷◌, ◌++◌, map, take, drop, length, slice_index_or, Some}
+use Rattle.std.specs.declared.option.Option.{Option}
 use Rattle.std.specs.List.{filter}
-use Rattle.std.proofs.Common.{ap, sym, subst, ◌∙◌, cond}
-use Rattle.std.proofs.lemmas.List.{take_all, map-append, append-nil}
-use Rattle.std.proofs.lemmas.List.Elements.{filter_more}
+use Rattle.std.proofs.Common.{arith, ap, sym, subst, ◌∙◌, cond}
+use Rattle.std.proofs.lemmas.List.{take_all, take-append-drop, map-append, append-nil}
+use Rattle.std.proofs.lemmas.List.Elements.{filter_more, filter-append}
 use Rattle.raim_model.specs.declared.almanac.AlmRecord.{AlmRecord}
 use Rattle.raim_model.specs.declared.limits.Weight.{Weight}
 use Rattle.raim_model.specs.declared.outage.Outage.{Outage}
@@ -12,10 +13,12 @@ use Rattle.fix_interval.specs.Ends.{Ends}
 use Rattle.orbit_laws.specs.Positions.{position_of}
 use Rattle.site_laws.specs.Frames.{FrameEnds}
 use Rattle.site_laws.specs.Sights.{SightEnds, look_of}
-use Rattle.verdict_laws.specs.Sights.{Sighted}
+use Rattle.verdict_laws.specs.Sights.{Sight, Visible, Hidden, Straddles, Sighted, count_possible, or_straddling, first_straddling}
 use Rattle.case_laws.specs.SightOver.{sight_given, weight_over}
 use Rattle.piece_verdict.specs.declared.seen.Seen.{Seen}
 use Rattle.piece_verdict.specs.Seen.{IsSeen}
+use Rattle.piece_verdict.specs.Looks.{AreLooks}
+use Rattle.piece_verdict.specs.declared.looks.Looks.TheVariants.{Straddle}
 use Rattle.piece_verdict.specs.Views.{seen_from, all_seen_from}
 
 -- a record more, which the filter keeps or not
@@ -54,3 +57,33 @@ seen_skip recs outages weights frame mask first last i rec old p e u s =
 pub seen_all : (recs : List AlmRecord) (outages : List Outage) (weights : List Weight) (frame : FrameEnds) (mask : Ends) (first last : ℤ) (i : ℕ) (old : Seen) → length recs ≤ i
     → IsSeen old (all_seen_from frame mask weights outages first last (take i recs)) → IsSeen old (all_seen_from frame mask weights outages first last recs)
 seen_all recs outages weights frame mask first last i old p s = subst (λ rs. IsSeen old (all_seen_from frame mask weights outages first last rs)) (take_all i recs p) s
+
+-- ---- what is settled by the first ones
+-- those that may be visible
+count_front : (xs ys : List Sighted) → count_possible xs ≤ count_possible (xs ++ ys)
+count_front [] ys = omega arith
+count_front (x ∷ xs) ys = let h = count_front xs ys in omega arith
+
+-- the first that straddles
+first_front : (xs ys : List Sighted) (prn : ℕ) → first_straddling xs ≡ Some prn → first_straddling (xs ++ ys) ≡ Some prn
+first_front [] ys prn e = absurd (cc)
+first_front (x ∷ xs) ys prn e = step x.prn x.sight (first_straddling xs) (first_straddling (xs ++ ys)) (λ f. first_front xs ys prn f) e
+  where
+    step : (p : ℕ) (w : Sight) (front all : Option ℕ) → (front ≡ Some prn → all ≡ Some prn) → or_straddling p w front ≡ Some prn → or_straddling p w all ≡ Some prn
+    step p (Visible row) front all h e = h e
+    step p Hidden front all h e = h e
+    step p Straddles front all h e = e
+
+-- where enough of the first ones may be visible and one of them straddles, it is so with all
+pub straddle_stays : (recs : List AlmRecord) (outages : List Outage) (weights : List Weight) (frame : FrameEnds) (mask : Ends) (first last : ℤ) (i needed prn : ℕ)
+    → AreLooks needed (all_seen_from frame mask weights outages first last (take i recs)) (Straddle prn) → AreLooks needed (all_seen_from frame mask weights outages first last recs) (Straddle prn)
+straddle_stays recs outages weights frame mask first last i needed prn h =
+    let f : AlmRecord → Sighted = λ rec. record { prn = rec.prn; sight = seen_from frame mask weights first last rec } in
+    let us : AlmRecord → Bool = is_usable outages first in
+    let front : List Sighted = map f (filter us (take i recs)) in
+    let rest : List Sighted = map f (filter us (drop i recs)) in
+    let e : front ++ rest ≡ all_seen_from frame mask weights outages first last recs =
+    sym (map-append f (filter us (take i recs)) (filter us (drop i recs))) ∙ ap (map f) (sym (filter-append us (take i recs) (drop i recs)) ∙ ap (filter us) (take-append-drop i recs)) in
+    let le = count_front front rest in
+    let few = h.0 in
+    subst (λ xs. AreLooks needed xs (Straddle prn)) e (omega arith, first_front front rest prn h.1)

@@ -1,14 +1,31 @@
 -- The laws that a judge of pieces owes.
-use Rattle.std.specs.Prelude.{◌≡◌, ℤ, ◌≤ℤ◌, true}
+use Rattle.std.specs.Prelude.{◌≡◌, ℕ, ◌≤◌, ◌-◌, ℤ, ◌≤ℤ◌, true, false, Bool, List, [], ◌∷◌, length, slice_index_or, Contains}
+use Rattle.std.proofs.Common.{arith, sym, subst}
+use Rattle.std.proofs.lemmas.Int.{ints}
+use Rattle.std.proofs.lemmas.List.Elements.{All-contains_itself}
+use Rattle.raim_model.specs.declared.almanac.AlmRecord.{AlmRecord}
+use Rattle.raim_model.specs.AlmanacInForce.{in_force}
+use Rattle.raim_model.specs.CaseRanges.{IsListed}
 use Rattle.raim_model.specs.CaseCuts.{MayBeJudged}
 use Rattle.raim_model.specs.Judgements.{is_certain}
 use Rattle.raim_model.specs.Solution.{Case}
-use Rattle.flight_laws.proofs.Usable.{judged_inside}
+use Rattle.flight_laws.proofs.Usable.{judged_inside, force_same}
+use Rattle.almanac_laws.proofs.Nearest.{is_one, nearest_first}
+use Rattle.verdict_laws.specs.Hold.{LeavesSight, HoldsSights}
+use Rattle.piece_verdict.specs.declared.known.Known.{Known}
+use Rattle.piece_verdict.specs.Hidden.{AreHidden, KnowsHidden}
+use Rattle.piece_verdict.specs.Known.{IsSure, rows_over, factor_for, KnowsSlopes, KnowsLists, Knows}
+use Rattle.slope_laws.specs.Rows.{NamedRowsInside}
+use Rattle.slope_laws.proofs.Kept.{inside_length}
+use Rattle.slope_test.specs.Marks.{SlopesPass, ListsPass}
+use Rattle.slope_test.proofs.MarkLemmas.{slopes_stay, lists_stay}
+use Rattle.verdict_laws.proofs.Factors.{kappa_inside}
+use Rattle.verdict_laws.proofs.Seen.{SameSeen}
 use Rattle.slope_laws.specs.ShiftSlopes.{slopes_for}
 use Rattle.slope_laws.specs.declared.shift.Shift.TheVariants.{Horizontal}
 use Rattle.slope_laws.proofs.ShiftSlopes.{shift_holds}
-use Rattle.verdict_laws.proofs.Pieces.{piece_settles}
-use Rattle.case_laws.specs.PieceVerdict.{piece_verdict_of}
+use Rattle.verdict_laws.proofs.Pieces.{piece_settles, seen_inside}
+use Rattle.case_laws.specs.PieceVerdict.{seen_of, piece_verdict_of}
 use Rattle.case_laws.specs.SightOver.{sight_over}
 use Rattle.case_laws.proofs.Looks.{sights_hold}
 
@@ -21,3 +38,60 @@ pub case_settles : (c : Case) (first last a b : ℤ) → MayBeJudged c first las
     → piece_verdict_of c a b ≡ piece_verdict_of c first last
 case_settles c first last a b p certain low ordered high =
     piece_settles (slopes_for Horizontal) (shift_holds Horizontal) c c.limits.alert_mm p.case.limits.alert.0 (sight_over c) (sights_hold c p.case) first last a b p.piece certain low ordered high
+
+-- the almanac in force is one of several
+force_listed : (t : ℤ) (almanacs : List (List AlmRecord)) → 1 ≤ length almanacs → Contains almanacs (in_force t almanacs)
+force_listed t [] h = absurd (omega arith)
+force_listed t (a ∷ rest) h = is_one t (a ∷ rest) (in_force t (a ∷ rest)) (nearest_first t a rest)
+
+-- the satellites that are hidden over a piece are so over each piece inside
+pub hidden_stays : (c : Case) (places : List Bool) (first last a b : ℤ) → MayBeJudged c first last → KnowsHidden c places first last → first ≤ℤ a → a ≤ℤ b → b ≤ℤ last → KnowsHidden c places a b
+hidden_stays c places first last a b p knows low ordered high =
+    let e : in_force a c.almanacs ≡ in_force first c.almanacs = force_same c first last a p.piece low (omega (arith, ints)) in
+    let holds : HoldsSights c (sight_over c) = sights_hold c p.case in
+    subst (λ recs. AreHidden (λ rec. sight_over c rec a b) recs places) (sym e)
+    (λ k d lt t.
+    let rec : AlmRecord = slice_index_or (in_force first c.almanacs) k d in
+    let listed : IsListed c rec = record { almanac = in_force first c.almanacs; is = force_listed first c.almanacs p.case.almanacs.some; has = All-contains_itself (in_force first c.almanacs) k d lt } in
+    subst (λ w. LeavesSight w (sight_over c rec a b)) (knows k d lt t) (holds.isotone first last a b p.piece low ordered high rec listed))
+
+-- where each usable satellite is visible or hidden throughout, it is so over each piece inside, with the same rows inside
+same_inside : (c : Case) (marks : List Bool) (first last a b : ℤ) → MayBeJudged c first last → IsSure c marks first last → first ≤ℤ a → a ≤ℤ b → b ≤ℤ last
+    → (i : ℕ) → slice_index_or marks i false ≡ true → SameSeen (seen_of c first last) (seen_of c a b)
+same_inside c marks first last a b p sure low ordered high i t = seen_inside c (sight_over c) (sights_hold c p.case) first last a b p.piece low ordered high (sure i t)
+
+-- the slopes that pass over a piece do so over each piece inside
+slopes_inside : (c : Case) (marks : List Bool) (first last a b : ℤ) → MayBeJudged c first last → KnowsSlopes c marks first last → first ≤ℤ a → a ≤ℤ b → b ≤ℤ last → KnowsSlopes c marks a b
+slopes_inside c marks first last a b p knows low ordered high =
+    let same = same_inside c marks first last a b p knows.sure low ordered high in
+    record {
+      sure = λ i t. (same i t).none;
+      pass = λ i row lt t.
+          let inside : NamedRowsInside (rows_over c a b) (rows_over c first last) = (same i t).rows in
+          let n : length (rows_over c a b) ≡ length (rows_over c first last) = inside_length (rows_over c a b) (rows_over c first last) inside in
+          subst (λ m. SlopesPass Horizontal (rows_over c a b) (factor_for c m) marks) (sym n)
+          (slopes_stay Horizontal (rows_over c a b) (rows_over c first last) (factor_for c (length (rows_over c first last))) marks (kappa_inside c.limits c.limits.alert_mm (length (rows_over c first last)) p.case.limits.alert.0) inside knows.pass)
+          i row lt t;
+    }
+
+-- and so do the lists without a row
+lists_inside : (c : Case) (marks : List Bool) (first last a b : ℤ) → MayBeJudged c first last → KnowsLists c marks first last → first ≤ℤ a → a ≤ℤ b → b ≤ℤ last → KnowsLists c marks a b
+lists_inside c marks first last a b p knows low ordered high =
+    let same = same_inside c marks first last a b p knows.sure low ordered high in
+    record {
+      sure = λ i t. (same i t).none;
+      pass = λ i lt t.
+          let inside : NamedRowsInside (rows_over c a b) (rows_over c first last) = (same i t).rows in
+          let n : length (rows_over c a b) ≡ length (rows_over c first last) = inside_length (rows_over c a b) (rows_over c first last) inside in
+          subst (λ m. ListsPass Horizontal (rows_over c a b) (factor_for c (m - 1)) marks) (sym n)
+          (lists_stay Horizontal (rows_over c a b) (rows_over c first last) (factor_for c (length (rows_over c first last) - 1)) marks (kappa_inside c.limits c.limits.alert_mm (length (rows_over c first last) - 1) p.case.limits.alert.0) inside knows.pass)
+          i lt t;
+    }
+
+-- what is known of a piece is known of each piece inside
+pub known_stays : (c : Case) (known : Known) (first last a b : ℤ) → MayBeJudged c first last → Knows c known first last → first ≤ℤ a → a ≤ℤ b → b ≤ℤ last → Knows c known a b
+known_stays c known first last a b p knows low ordered high = record {
+  hidden = hidden_stays c known.hidden.places first last a b p knows.hidden low ordered high;
+  slopes = slopes_inside c known.slopes.places first last a b p knows.slopes low ordered high;
+  lists = lists_inside c known.lists.places first last a b p knows.lists low ordered high;
+}

@@ -4,4 +4,6 @@ pub mod KeptCases
 pub mod Seen
 pub mod Looks
 pub mod Views
+pub mod Hidden
+pub mod Known
 pub mod CaseLaws

@@ -5,7 +5,10 @@ mod case;
 mod constellation;
 mod cuts;
 mod factor;
+mod found;
+mod hidden;
 mod judge;
+mod known;
 mod legs;
 mod looks;
 mod satellite;
@@ -18,4 +21,5 @@ mod views;
 mod weight;
 
 pub use case::Case;
+pub use known::Known;
 pub use looks::Looks;

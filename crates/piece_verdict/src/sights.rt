@@ -1,16 +1,20 @@
 // What is seen of the satellites from a receiver's frame, over a piece of time.
-ghost use Rattle.std.specs.Prelude.{◌≡◌, ◌≤◌, ◌≤ℤ◌, All, length};
+ghost use Rattle.std.specs.Prelude.{◌≡◌, ◌≢◌, ℕ, ◌≤◌, ◌<◌, ◌≤ℤ◌, All, [], length, slice_index_or, true, false};
 ghost use Rattle.raim_model.specs.AlmanacRanges.{IsApplicable};
 ghost use Rattle.raim_model.specs.Ranges.{IsWeight};
 ghost use Rattle.fix_interval.specs.Intervals.{ends};
 ghost use Rattle.site_laws.specs.Frames.{IsFrame};
-ghost use Rattle.site_laws.specs.Sights.{DirectionEnds, DirectionInside, IsSineEnds, look_of, widest_direction, visible};
+ghost use Rattle.site_laws.specs.Sights.{DirectionEnds, DirectionInside, IsSineEnds, look_of, widest_direction, visible, hidden};
 ghost use Rattle.wgs_position.specs.Frames.{frame_ends};
 ghost use Rattle.elev_mask.specs.Sights.{sight_ends};
 ghost use Rattle.orbit_laws.specs.Positions.{position_of};
-ghost use Rattle.piece_verdict.specs.Seen.{IsSeen};
-ghost use Rattle.piece_verdict.specs.Views.{all_seen_from};
+ghost use Rattle.piece_verdict.specs.Looks.{AreLooks};
+ghost use Rattle.piece_verdict.specs.Hidden.{AreHidden};
+ghost use Rattle.piece_verdict.specs.Seen.{looks_with, IsSeen};
+ghost use Rattle.piece_verdict.specs.Views.{seen_from, all_seen_from};
 
+use crate::found::Found;
+use crate::hidden::Hidden;
 use crate::satellite::Satellite;
 use crate::seen::Seen;
 use crate::weight::weight;
@@ -33,16 +37,52 @@ fn sight(satellite: &Satellite, frame: &SiteFrame, mask: Iv, first: i64, last: i
     look(frame, &place, mask)
 }
 
-/// How the satellites that are usable at `first` are seen.
+/// How the satellite at a place of its almanac is seen, where it may be known to be hidden; if it is, that is known then.
+fn sight_told(
+    known: &mut Hidden,
+    place: usize,
+    satellite: &Satellite,
+    frame: &SiteFrame,
+    mask: Iv,
+    first: i64,
+    last: i64,
+) -> Sight
+    requires place { place < 32 }
+    requires known { slice_index_or known.old.places place false ≡ true → look_of (frame_ends frame.now) (position_of satellite.now first last) (ends mask) ≡ hidden }
+    requires ordered { first ≤ℤ last }
+    requires first_applicable { IsApplicable satellite.now first }
+    requires last_applicable { IsApplicable satellite.now last }
+    requires frame { IsFrame (frame_ends frame.now) }
+    requires mask { IsSineEnds (ends mask) }
+    ensures exact { sight_ends result ≡ look_of (frame_ends frame.now) (position_of satellite.now first last) (ends mask) }
+    ensures bound { (row : DirectionEnds) → sight_ends result ≡ visible row → DirectionInside row widest_direction }
+    ensures found { slice_index_or known.new.places place false ≡ true → look_of (frame_ends frame.now) (position_of satellite.now first last) (ends mask) ≡ hidden }
+    ensures others { (k : ℕ) → k ≢ place → slice_index_or known.new.places k false ≡ slice_index_or known.old.places k false }
+{
+    if known.holds(place) {
+        return Sight::Hidden;
+    }
+    let sight = sight(satellite, frame, mask, first, last);
+    if let Sight::Hidden = sight {
+        known.add(place);
+    }
+    sight
+}
+
+/// What a test that needs so many satellites makes of those that are usable at `first`, whose rows are kept in `seen`. Where one
+/// straddles and enough may be visible, the rest need no look.
 pub(crate) fn sights(
     satellites: &[Satellite],
     outages: &[Outage],
     weights: &[Weight],
     frame: &SiteFrame,
     mask: Iv,
+    needed: usize,
+    known: &mut Hidden,
+    seen: &mut Seen,
     first: i64,
     last: i64,
-) -> Seen
+) -> Found
     requires few { length satellites.now ≤ 32 }
     requires weights { All IsWeight weights.now }
     requires ordered { first ≤ℤ last }
@@ -50,15 +90,22 @@ pub(crate) fn sights(
     requires last_applicable { All (λ rec. IsApplicable rec last) satellites.now }
     requires frame { IsFrame (frame_ends frame.now) }
     requires mask { IsSineEnds (ends mask) }
-    ensures { IsSeen result (all_seen_from (frame_ends frame.now) (ends mask) weights.now outages.now first last satellites.now) }
+    requires known { AreHidden (seen_from (frame_ends frame.now) (ends mask) weights.now first last) satellites.now known.old.places }
+    requires none { IsSeen seen.old [] }
+    ensures looks { AreLooks needed (all_seen_from (frame_ends frame.now) (ends mask) weights.now outages.now first last satellites.now) (looks_with result seen.new) }
+    ensures known { AreHidden (seen_from (frame_ends frame.now) (ends mask) weights.now first last) satellites.now known.new.places }
 {
-    let mut seen = Seen::new();
+    let mut place = 0;
     for satellite in satellites {
+        if let Some(straddling) = seen.settles(needed) {
+            return Found::Straddle(straddling);
+        }
         if satellite.usable_at(outages, first) {
-            let sight = sight(satellite, frame, mask, first, last);
+            let sight = sight_told(known, place, satellite, frame, mask, first, last);
             let prn = satellite.prn();
             seen.add(prn, sight, weight(weights, prn));
         }
+        place += 1;
     }
-    seen
+    seen.found(needed)
 }

@@ -14,7 +14,9 @@ ghost use Rattle.piece_verdict.specs.Looks.{AreLooks, LeavesLooks, prns_of};
 
 use crate::case::Case;
 use crate::factor::kappa;
+use crate::hidden::Hidden;
 use crate::looks::Looks;
+use crate::seen::Seen;
 use fix_interval::Iv;
 use std::sync::ledger::Ledger;
 use step_counter::Steps;
@@ -40,7 +42,10 @@ impl Case {
             → AreLooks (least_count self.now.limits.exclude) (seen_of self.now a b) inside → LeavesLooks result inside }
     {
         steps.tick();
-        self.looked(first, last)
+        let mut known = Hidden::none();
+        let mut seen = Seen::new();
+        let found = self.looked(first, last, &mut known, &mut seen);
+        seen.looks(found)
     }
 
     /// The squared bias for `n` satellites over the square of an alert limit in millimetres, in units of 2^-38. It takes no

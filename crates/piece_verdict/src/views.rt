@@ -1,5 +1,5 @@
 // What is seen over a piece of time of a case's flight.
-ghost use Rattle.std.specs.Prelude.{◌≡◌, ◌≤ℤ◌};
+ghost use Rattle.std.specs.Prelude.{◌≡◌, ◌≤ℤ◌, []};
 ghost use Rattle.raim_model.specs.declared.almanac.AlmRecord.{AlmRecord};
 ghost use Rattle.raim_model.specs.CaseCuts.{MayBeJudged};
 ghost use Rattle.raim_model.specs.PointVerdict.{least_count};
@@ -7,13 +7,15 @@ ghost use Rattle.site_laws.specs.Frames.{IsFrame};
 ghost use Rattle.wgs_position.specs.Frames.{frame_ends};
 ghost use Rattle.case_laws.specs.PieceVerdict.{seen_of};
 ghost use Rattle.case_laws.specs.SightOver.{mask_of, sight_over};
+ghost use Rattle.piece_verdict.specs.Hidden.{KnowsHidden};
 ghost use Rattle.piece_verdict.specs.Looks.{AreLooks};
-ghost use Rattle.piece_verdict.specs.Seen.{IsSeen};
+ghost use Rattle.piece_verdict.specs.Seen.{looks_with, IsSeen};
 ghost use Rattle.piece_verdict.specs.Views.{seen_from};
 
 use crate::case::Case;
+use crate::found::Found;
+use crate::hidden::Hidden;
 use crate::legs::leg;
-use crate::looks::Looks;
 use crate::seen::Seen;
 use crate::sights::sights;
 use crate::slopes::needed;
@@ -33,12 +35,17 @@ impl Case {
         frame(&place_over(&self.route, leg, first, last))
     }
 
-    /// What is seen over a piece of the satellites that are usable.
-    fn seen(&self, first: i64, last: i64) -> Seen
+    /// What the test makes of the satellites that are usable, where some are known to be hidden; those that are found to be
+    /// hidden are known then. The rows are kept in `seen`.
+    pub(crate) fn looked(&self, first: i64, last: i64, known: &mut Hidden, seen: &mut Seen) -> Found
         requires ordered { first ≤ℤ last }
         requires rule { MayBeJudged self.now first last }
-        ensures { IsSeen result (seen_of self.now first last) }
+        requires known { KnowsHidden self.now known.old.places first last }
+        requires none { IsSeen seen.old [] }
+        ensures looks { AreLooks (least_count self.now.limits.exclude) (seen_of self.now first last) (looks_with result seen.new) }
+        ensures known { KnowsHidden self.now known.new.places first last }
     {
+        let needed = needed(&self.limits);
         let frame = self.receiver(first, last);
         let place = in_force_at(self.times.as_slice(), first);
         sights(
@@ -47,18 +54,11 @@ impl Case {
             self.limits.weights.as_slice(),
             &frame,
             self.mask,
+            needed,
+            known,
+            seen,
             first,
             last,
         )
-    }
-
-    /// What the test makes of it.
-    pub(crate) fn looked(&self, first: i64, last: i64) -> Looks
-        requires ordered { first ≤ℤ last }
-        requires rule { MayBeJudged self.now first last }
-        ensures { AreLooks (least_count self.now.limits.exclude) (seen_of self.now first last) result }
-    {
-        let needed = needed(&self.limits);
-        self.seen(first, last).looks(needed)
     }
 }

@@ -1,4 +1,6 @@
-pub mod ToldLemmas
-pub mod FewLemmas
-pub mod CauseLemmas
-pub mod GrowthLemmas
+pub mod Clashes
+pub mod Settling
+pub mod RunLemmas
+pub mod NoteLemmas
+pub mod FileLemmas
+pub mod CaseLemmas

@@ -1,58 +1,52 @@
--- What each answer of a run says of the almanac's bytes.
-use Rattle.std.specs.Prelude.{◌≡◌, ◌⊎◌, ◌≤◌, ◌<◌, ℕ, Bool, List, ◌++◌, length, filter, codes, decimal}
-use Rattle.raim_model.specs.declared.TextWhy.{TextWhy}
-use Rattle.raim_model.specs.declared.TextWhy.TheVariants.{Label, FileTooLong}
-use Rattle.raim_model.specs.Usable.{is_healthy}
-use Rattle.raim_model.specs.PointVerdict.{IsTooFew}
-use Rattle.raim_base.specs.Sizes.{longest_file}
-use Rattle.text_lines.specs.Lines.{Text, lines_of}
-use Rattle.yuma_text.specs.declared.Health.{Health}
-use Rattle.yuma_text.specs.Yuma.{SayHealths, SayNoHealths}
-use Rattle.raim_run.specs.Queries.{Asked}
+-- The text that a run writes, and what it says of the flight.
+use Rattle.std.specs.Prelude.{◌≡◌, ◌↔◌, ℕ, ℤ, true, List, Contains}
+use Rattle.std.specs.declared.option.Option.{Option}
+use Rattle.raim_model.specs.declared.Cmp.{Cmp}
+use Rattle.raim_model.specs.declared.Cmp.TheVariants.{Mask}
+use Rattle.raim_model.specs.declared.Run.{Run}
+use Rattle.raim_model.specs.declared.Verdict.TheVariants.{Undecided}
+use Rattle.raim_model.specs.Judgements.{is_certain}
+use Rattle.raim_model.specs.Level.{Level}
+use Rattle.raim_model.specs.Route.{flight_of}
+use Rattle.raim_model.specs.Runs.{HasRuns}
+use Rattle.raim_model.specs.Solution.{Case, InFlight, Solution}
+use Rattle.text_lines.specs.Lines.{Text}
+use Rattle.report_text.specs.Report.{IsReport}
+use Rattle.demo_texts.specs.Summary.{summary_text}
+use Rattle.flight_forecast.specs.InOrder.{CoverInOrder}
+use Rattle.flight_forecast.specs.Words.{InRun, LiesInRun, IsNearMaskAlways, verdict_against, HasVerdictAgainst}
+use Rattle.command_words.specs.Asked.{Asked}
+use Rattle.command_words.specs.Asked.Asked.{Prediction, Demonstration, PredictionUp}
+use Rattle.raim_run.specs.Alerts.{alert_of}
+use Rattle.raim_run.specs.Cases.{IsCaseOf}
 
--- the file has more bytes than a file may have
-abbrev pub IsTooLong : Text → Type 0
-IsTooLong bytes = longest_file < length bytes
+-- how the runs of a flight are written: as a report of a prediction, with times of UTC, and as the line of a demonstration
+abbrev pub AreWritten : Asked → (leap : ℕ) → List Run → Text → Type 0
+AreWritten (Prediction paths) leap runs text = IsReport leap runs text
+AreWritten (Demonstration number) leap runs text = text ≡ summary_text number runs
+AreWritten (PredictionUp paths vertical_mm) leap runs text = IsReport leap runs text
 
--- the file is accepted, and says these healths
-abbrev pub IsAccepted : Text → List Health → Type 0
-IsAccepted bytes healths = (length bytes ≤ longest_file) × SayHealths (lines_of bytes) healths
+-- The runs of the flight, and what they say is so. Verdicts are held against the alert limit that is asked for.
+pub record AreFound (asked : Asked) (holds : Text → Option Text) (c : Case) (runs : List Run) : Type 0 where
+  -- the four files are accepted, and say this case
+  pub accepted : IsCaseOf asked holds c
+  -- the runs are those of the written verdict of each millisecond: the first starts with the flight, each starts where the one
+  -- before it ends and has another verdict, and the last ends with the flight
+  pub runs_are : HasRuns (verdict_against (alert_of asked) c) (flight_of c.route).first (flight_of c.route).end runs
+  pub in_order : CoverInOrder (flight_of c.route) runs
+  -- Available, or Unavailable for a reason: at each millisecond of the run, every solution at every level has that verdict
+  pub right : (run : Run) (t : ℤ) → Contains runs run → is_certain run.verdict ≡ true → InRun run t → HasVerdictAgainst (alert_of asked) c t run.verdict
+  -- a millisecond is in a run Undecided exactly where its written verdict is, by the same comparison
+  pub undecided : (t : ℤ) (comparison : Cmp) → InFlight c t → (LiesInRun runs t (Undecided comparison) ↔ (verdict_against (alert_of asked) c t t ≡ Undecided comparison))
+  -- undecided by the mask of a satellite: every solution at every level has it at 1 Mm or at the mask, to 2^-15 Mm
+  pub near : (run : Run) (prn : ℕ) (t : ℤ) → Contains runs run → run.verdict ≡ Undecided (Mask prn) → InRun run t → IsNearMaskAlways c t prn
+  -- at every level and millisecond of the flight there is a solution
+  pub exists : (level : Level) (t : ℤ) → InFlight c t → Solution level c t
 
--- the file is no almanac
-abbrev pub IsNoAlmanac : Text → Type 0
-IsNoAlmanac bytes = (length bytes ≤ longest_file) × SayNoHealths (lines_of bytes)
-
--- the file is refused, as a whole: at line 0
-abbrev pub IsRefused : Text → ℕ → TextWhy → Type 0
-IsRefused bytes line why = (line ≡ 0) × (((why ≡ Label) × IsNoAlmanac bytes) ⊎ ((why ≡ FileTooLong) × IsTooLong bytes))
-
--- the satellites that may be used
-abbrev pub usable : List Health → List Health
-usable healths = filter (λ h. is_healthy h.health) healths
-
--- the verdict at each millisecond of the span is Unavailable for the reason Few, whichever of the usable
--- satellites are visible then
-abbrev pub IsFewThroughout : Asked → List Health → Type 0
-IsFewThroughout asked healths = (is_visible : ℕ → Health → Bool) (t : ℕ) → asked.start ≤ t → t < asked.end
-    → IsTooFew (length (filter (is_visible t) (usable healths)))
-
--- the almanac is accepted, and fewer than five of its satellites may be used: too few throughout
-pub record IsCertainlyFew (asked : Asked) (bytes : Text) : Type 0 where
-  pub healths : List Health
-  pub accepted : IsAccepted bytes healths
-  pub fewer : length (usable healths) < 5
-  pub throughout : IsFewThroughout asked healths
-
--- the almanac is accepted, and five or more of its satellites may be used
-pub record IsNotBuilt (bytes : Text) : Type 0 where
-  pub healths : List Health
-  pub accepted : IsAccepted bytes healths
-  pub enough : 5 ≤ length (usable healths)
-
--- the line of one interval: its start and its end, in decimal, and its verdict
-abbrev pub line_of : ℕ → ℕ → Text
-line_of start end = decimal start ++ codes " " ++ decimal end ++ codes " Unavailable Few\n"
-
--- the one interval, which is the whole span
-abbrev pub report_of : Asked → Text
-report_of asked = line_of asked.start asked.end
+-- the text answers what is asked: it says the runs of the flight of the case that the four files are
+pub record IsAnswer (asked : Asked) (holds : Text → Option Text) (text : Text) : Type 0 where
+  pub case : Case
+  pub runs : List Run
+  pub found : AreFound asked holds case runs
+  -- under the leap seconds of the limits
+  pub written : AreWritten asked case.limits.leap runs text

@@ -1,17 +1,30 @@
-//! The top call: words and files in, one line out, and the cause of every answer.
+//! The top call: words and files in, the flight's intervals out, and the cause of every answer.
 #![tactic(auto)]
 
+mod answer;
+mod case;
+#[cfg(test)]
+mod case_tests;
+mod ending;
+#[cfg(test)]
+mod fault_tests;
+mod files;
+#[cfg(test)]
+mod flight_tests;
 mod note;
-mod predict;
 mod process;
-mod query;
+mod program;
+mod runs;
 mod status;
 mod sure;
 #[cfg(test)]
 mod tests;
+mod text;
 mod top;
 
-pub use process::{exit_code, run_process, run_to_end};
+pub use case::read_case;
+pub use process::{exit_code, run_process, run_program_process, run_program_to_end, run_to_end};
+pub use program::run_program;
 pub use status::Status;
 pub use sure::run_surely;
 pub use top::run;

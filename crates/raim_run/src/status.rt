@@ -7,11 +7,11 @@ use raim_model::{FileNo, TextWhy};
 /// How a run ends.
 #[derive(Clone, Copy, Debug, PartialEq, Eq)]
 pub enum Status {
-    /// The whole line was written.
+    /// The whole text was written.
     Done,
-    /// The words are not of the form.
+    /// The words ask for nothing.
     Usage,
-    /// The file leaves its format at that line, or is too long.
+    /// The file leaves its format at that line, or, at line 0, is too long.
     Refused {
         file: FileNo,
         line: u32,
@@ -21,12 +21,18 @@ pub enum Status {
     ReadFault {
         file: FileNo,
     },
-    /// A write failed; a front of the line was written.
+    /// A write failed; a front of the text was written.
     WriteFault,
+    /// The first millisecond whose evaluation leaves the range of its numbers, since the GPS epoch, in GPS time, and the
+    /// satellite's PRN.
+    Overflow {
+        at: i64,
+        prn: u8,
+    },
+    /// The flight has more than 65,536 runs.
+    TooManyRuns,
     /// No memory was left.
     Memory,
-    /// Five or more satellites are healthy, and what decides then is not built yet.
-    NotBuilt,
 }
 
 impl Status {
@@ -40,8 +46,9 @@ impl Status {
             Status::Refused { .. } => 2,
             Status::ReadFault { .. } => 3,
             Status::WriteFault => 4,
+            Status::Overflow { .. } => 5,
+            Status::TooManyRuns => 6,
             Status::Memory => 7,
-            Status::NotBuilt => 8,
         }
     }
 }

@@ -1,43 +1,105 @@
-// The top call over a desk and sinks in memory.
+// The top call over a desk and sinks in memory: what its tests share, its words, and how a process ends.
 ghost use Rattle.std.specs.Prelude.{◌≡◌, ◌≤◌, ◌<◌};
 
 use super::*;
 use raim_base::{MemDesk, MemSink, StdSink, SureDesk, SureSink};
-use raim_model::{FileNo, TextWhy};
+use raim_model::FileNo;
 use std::alloc::Global;
 use std::marker::Brand;
-use std::process::{Abort, ExitCode};
+use std::process::ExitCode;
 use std::sync::ledger::{Blank, Ledger};
 use std::test::Fail;
 use step_counter::Steps;
-use text_lines::LONGEST_FILE;
 
-const LINE: &str = "1414022400000 1414022401000 Unavailable Few\n";
+pub(crate) const USAGE: &str =
+    "raim: usage: raim predict LIMITS ALMANAC OUTAGES ROUTE or raim demo NUMBER\n";
 
-const ROOM: usize = 200;
+/// No mask, no limit worth the name, and no leap second.
+pub(crate) const OPEN_LIMITS: &str = "leap 0\nmask -90\nalert 1000000000\nbias 5 1\n";
 
-// What a run left behind.
-#[derive(Drop)]
-struct Left {
-    status: Status,
-    out: Vec<u8>,
-    note: Vec<u8>,
-    failed: Option<FileNo>,
-    calls: u64,
+/// One second at one place on the equator.
+pub(crate) const SECOND: &str = "2024-10-27T00:00:00.000Z 0 0 0\n2024-10-27T00:00:01.000Z 0 0 0\n";
+
+/// Satellite 3 is out for three tenths of the second.
+pub(crate) const OUTAGE: &str = "03 2024-10-27T00:00:00.200Z 2024-10-27T00:00:00.500Z\n";
+
+/// The report of the second with that outage, under five satellites.
+pub(crate) const THREE_RUNS: &str = "\
+2024-10-27T00:00:00.000Z 2024-10-27T00:00:00.200Z Available
+2024-10-27T00:00:00.200Z 2024-10-27T00:00:00.500Z Unavailable Few
+2024-10-27T00:00:00.500Z 2024-10-27T00:00:01.000Z Available
+";
+
+/// Of each satellite the lines for the shape, the plane and the phase.
+pub(crate) type Elements<'a> = [&'a str; 3];
+
+/// Four satellites about the Earth, and one overhead.
+pub(crate) const FIVE: [Elements<'static>; 5] = [
+    ["0.0 0.2 0.0", "5153.6 0.5 0.0", "0.0 0.0 0.0"],
+    ["0.0 0.2 0.0", "5153.6 -0.5 0.0", "0.0 0.0 0.0"],
+    ["0.0 0.2 0.0", "5153.6 0.0 0.0", "0.5 0.0 0.0"],
+    ["0.0 0.2 0.0", "5153.6 0.0 0.0", "-0.25 0.0 0.0"],
+    ["0.0 0.2 0.0", "5153.6 0.0 0.0", "0.0 0.0 0.0"],
+];
+
+/// A SEM almanac of healthy satellites, from PRN 1 on.
+pub(crate) fn almanac_of(
+    alloc: Global,
+    head: &str,
+    satellites: &[Elements],
+) -> Result<String, Fail> {
+    let mut text = String::from_str(alloc, head)?;
+    for (k, lines) in satellites.iter().enumerate() {
+        let prn = k.wrapping_add(1);
+        let first = format!(in alloc; "{prn}\n{prn}\n0\n")?;
+        text.push_str(first.as_str())?;
+        for line in lines {
+            text.push_str(line)?;
+            text.push_str("\n")?;
+        }
+        text.push_str("0\n9\n")?;
+    }
+    Ok(text)
 }
 
-// How many bytes a call moves at most, and which calls fail.
+/// The almanac of the five satellites, for week 2338.
+pub(crate) fn five(alloc: Global) -> Result<String, Fail> {
+    almanac_of(alloc, "5 FIVE\n2338 0\n", &FIVE)
+}
+
+/// The four texts of a prediction.
 #[derive(Clone, Copy)]
-struct Calls<'a> {
-    chunk: usize,
-    fails: &'a [u64],
+pub(crate) struct Texts<'a> {
+    pub(crate) limits: &'a [u8],
+    pub(crate) almanac: &'a [u8],
+    pub(crate) outages: &'a [u8],
+    pub(crate) route: &'a [u8],
+}
+
+/// How many bytes a call moves at most, and which calls fail.
+#[derive(Clone, Copy)]
+pub(crate) struct Calls<'a> {
+    pub(crate) chunk: usize,
+    pub(crate) fails: &'a [u64],
     ghost moves: { 0 < chunk },
 }
 
-const SURE: Calls<'static> = Calls {
+pub(crate) const SURE: Calls<'static> = Calls {
     chunk: 4096,
     fails: &[],
 };
+
+/// What a run left behind.
+#[derive(Drop)]
+pub(crate) struct Left {
+    pub(crate) status: Status,
+    pub(crate) out: Vec<u8>,
+    pub(crate) note: Vec<u8>,
+    pub(crate) failed: Option<FileNo>,
+    pub(crate) calls: u64,
+}
+
+pub(crate) const PREDICT: [&str; 6] = ["raim", "predict", "limits", "almanac", "outages", "route"];
 
 fn texts_of(alloc: Global, words: &[&str]) -> Result<Vec<String>, Fail> {
     let mut texts = Vec::new(alloc);
@@ -50,7 +112,7 @@ fn texts_of(alloc: Global, words: &[&str]) -> Result<Vec<String>, Fail> {
 fn run_counted<L: Ledger>(
     alloc: Global,
     words: &[&str],
-    almanac: &[u8],
+    texts: Texts,
     reads: Calls,
     writes: Calls,
     blank: Blank,
@@ -60,22 +122,22 @@ fn run_counted<L: Ledger>(
     requires some { 1 ≤ blank.parts }
 {
     let mut steps: Steps<L> = Steps::new(blank);
-    let texts = texts_of(alloc, words)?;
+    let words = texts_of(alloc, words)?;
     let mut desk = MemDesk::new(
-        Vec::new(alloc),
-        almanac.to_vec(alloc)?,
-        Vec::new(alloc),
-        Vec::new(alloc),
+        texts.limits.to_vec(alloc)?,
+        texts.almanac.to_vec(alloc)?,
+        texts.outages.to_vec(alloc)?,
+        texts.route.to_vec(alloc)?,
         reads.fails.to_vec(alloc)?,
         reads.chunk,
     );
-    let Ok(mut out) = MemSink::new(alloc, ROOM, writes.fails.to_vec(alloc)?, writes.chunk) else {
+    let Ok(mut out) = MemSink::new(alloc, 4096, writes.fails.to_vec(alloc)?, writes.chunk) else {
         return Err(Fail::from("no memory"));
     };
-    let Ok(mut note) = MemSink::new(alloc, ROOM, Vec::new(alloc), 4096) else {
+    let Ok(mut note) = MemSink::new(alloc, 4096, Vec::new(alloc), 4096) else {
         return Err(Fail::from("no memory"));
     };
-    let status = run(alloc, &texts, &mut desk, &mut out, &mut note, &mut steps);
+    let status = run(alloc, &words, &mut desk, &mut out, &mut note, &mut steps);
     Ok(Left {
         status,
         out: out.contents().to_vec(alloc)?,
@@ -85,91 +147,49 @@ fn run_counted<L: Ledger>(
     })
 }
 
-fn run_with(
+/// Runs the words over these texts.
+pub(crate) fn run_with(
     alloc: Global,
     words: &[&str],
-    almanac: &[u8],
+    texts: Texts,
     reads: Calls,
     writes: Calls,
 ) -> Result<Left, Fail> {
-    run_counted::<Brand>(alloc, words, almanac, reads, writes, Blank::new(1))
-}
-
-const WORDS: [&str; 5] = [
-    "raim",
-    "predict",
-    "1414022400000",
-    "1414022401000",
-    "almanac",
-];
-
-// An almanac of so many records, the first of them healthy.
-fn almanac(alloc: Global, records: u8, healthy: u8) -> Result<String, Fail> {
-    let mut text = String::new(alloc);
-    for k in 0..records {
-        let prn = k + 1;
-        let health = if k < healthy { 0 } else { 63 };
-        let head = format!(in alloc;
-            "******** Week 290 almanac for PRN-{prn:02} ********\nID: {prn:02}\nHealth: {health:03}\n"
-        )?;
-        text.push_str(head.as_str())?;
-        text.push_str(tail())?;
-        text.push_str("week: 290\n")?;
-    }
-    Ok(text)
-}
-
-// The lines behind the health, but for the week.
-fn tail() -> &'static str {
-    "Eccentricity: 0.1086759567E-001\nTime of Applicability(s): 405504.0000\nOrbital Inclination(rad): 0.9601357400\nRate of Right Ascen(r/s): -0.8126052768E-008\nSQRT(A)  (m 1/2): 5153.636719\nRight Ascen at Week(rad): 0.1296372856E+001\nArgument of Perigee(rad): 0.812318933\nMean Anom(rad): -0.9442756846E+000\nAf0(s): 0.0000000000E+000\nAf1(s/s): 0.0000000000E+000\n"
-}
-
-#[test]
-fn four_healthy_satellites_are_few(rt: HostRuntime) -> Result<(), Fail> {
-    let alloc = rt.alloc();
-    let text = almanac(alloc, 4, 4)?;
-    let left = run_with(alloc, &WORDS, text.as_bytes(), SURE, SURE)?;
-    assert_eq!(rt; left.status, Status::Done);
-    assert_eq!(rt; left.out.as_slice(), LINE.as_bytes());
-    assert_eq!(rt; left.note.len(), 0);
-    Ok(())
-}
-
-#[test]
-fn five_healthy_satellites_of_six_are_not_built(rt: HostRuntime) -> Result<(), Fail> {
-    let alloc = rt.alloc();
-    let text = almanac(alloc, 6, 5)?;
-    let left = run_with(alloc, &WORDS, text.as_bytes(), SURE, SURE)?;
-    assert_eq!(rt; left.status, Status::NotBuilt);
-    assert_eq!(rt; left.status.number(), 8);
-    assert_eq!(rt; left.out.len(), 0);
-    let note = "raim: not built: five healthy records\n";
-    assert_eq!(rt; left.note.as_slice(), note.as_bytes());
-    Ok(())
+    run_counted::<Brand>(alloc, words, texts, reads, writes, Blank::new(1))
 }
 
 #[test]
 fn other_words_are_usage_and_name_nothing(rt: HostRuntime) -> Result<(), Fail> {
     let alloc = rt.alloc();
-    let text = almanac(alloc, 4, 4)?;
-    let lines: [&[&str]; 17] = [
+    let almanac = five(alloc)?;
+    let texts = Texts {
+        limits: OPEN_LIMITS.as_bytes(),
+        almanac: almanac.as_bytes(),
+        outages: b"",
+        route: SECOND.as_bytes(),
+    };
+    let lines: [&[&str]; 19] = [
         &[],
         &["raim"],
+        &["predict", "limits", "almanac", "outages", "route"],
         &["raim", "predict"],
-        &["raim", "predict", "1", "2"],
-        &["raim", "predict", "1", "2", "almanac", "x"],
-        &["raim", "Predict", "1", "2", "almanac"],
-        &["raim", "predict", "5", "5", "a"],
-        &["raim", "predict", "6", "5", "almanac"],
-        &["raim", "predict", "1", "86400002", "almanac"],
-        &["raim", "predict", "", "2", "almanac"],
-        &["raim", "predict", "1", "", "almanac"],
-        &["raim", "predict", "+1", "2", "almanac"],
-        &["raim", "predict", "1", " 2", "almanac"],
-        &["raim", "predict", "1", "2.", "almanac"],
-        &["raim", "predict", "-1", "2", "almanac"],
-        &["raim", "predict", "0", "1000000000000000", "almanac"],
-        &["raim", "predict", "\u{661}", "2", "almanac"],
+        &["raim", "predict", "A", "B"],
+        &["raim", "predict", "limits", "almanac", "outages"],
+        &[
+            "raim", "predict", "limits", "almanac", "outages", "route", "route",
+        ],
+        &["raim", "predict", "limits", "almanac", "outages", "-route"],
+        &["raim", "predict", "--help", "almanac", "outages", "route"],
+        &["raim", "predict", "limits", "almanac", "-h", "route"],
+        &["raim", "Predict", "limits", "almanac", "outages", "route"],
+        &["raim", "--help"],
+        &["raim", "-h"],
+        &["raim", "demo"],
+        &["raim", "demo", "x"],
+        &["raim", "demo", ""],
+        &["raim", "demo", "-1"],
+        &["raim", "demo", "4294967296"],
+        &["raim", "demo", "1", "2"],
     ];
     // The first call of the desk would fail.
     let reads = Calls {
@@ -177,171 +197,20 @@ fn other_words_are_usage_and_name_nothing(rt: HostRuntime) -> Result<(), Fail> {
         fails: &[1],
     };
     for words in lines {
-        let left = run_with(alloc, words, text.as_bytes(), reads, SURE)?;
+        let left = run_with(alloc, words, texts, reads, SURE)?;
         assert_eq!(rt; left.status, Status::Usage, "{words:?}");
         assert_eq!(rt; left.failed, None);
         assert_eq!(rt; left.calls, 0);
         assert_eq!(rt; left.out.len(), 0);
-        let note = "raim: usage: raim predict START END ALMANAC\n";
-        assert_eq!(rt; left.note.as_slice(), note.as_bytes());
+        assert_eq!(rt; left.note.as_slice(), USAGE.as_bytes());
     }
-    Ok(())
-}
-
-#[test]
-fn spans_of_a_day_and_leading_zeros_are_taken(rt: HostRuntime) -> Result<(), Fail> {
-    let alloc = rt.alloc();
-    let text = almanac(alloc, 4, 4)?;
-    let words = ["", "predict", "000000000000007", "86400007", "almanac"];
-    let left = run_with(alloc, &words, text.as_bytes(), SURE, SURE)?;
-    assert_eq!(rt; left.status, Status::Done);
-    let line = "7 86400007 Unavailable Few\n";
-    assert_eq!(rt; left.out.as_slice(), line.as_bytes());
-    let words = [
-        "raim",
-        "predict",
-        "999999999999998",
-        "999999999999999",
-        "almanac",
-    ];
-    let left = run_with(alloc, &words, text.as_bytes(), SURE, SURE)?;
-    let line = "999999999999998 999999999999999 Unavailable Few\n";
-    assert_eq!(rt; left.out.as_slice(), line.as_bytes());
-    Ok(())
-}
-
-// The almanac is refused, and the note says this.
-fn expect_refused(
-    rt: &impl Abort,
-    alloc: Global,
-    bytes: &[u8],
-    why: TextWhy,
-    note: &str,
-) -> Result<(), Fail> {
-    let left = run_with(alloc, &WORDS, bytes, SURE, SURE)?;
-    let file = FileNo::Almanac;
-    assert_eq!(rt; left.status, Status::Refused { file, line: 0, why });
-    assert_eq!(rt; left.status.number(), 2);
-    assert_eq!(rt; left.out.len(), 0);
-    assert_eq!(rt; left.note.as_slice(), note.as_bytes());
-    Ok(())
-}
-
-const NO_ALMANAC: &str = "raim: almanac line 0: Label\n";
-
-#[test]
-fn what_is_no_almanac_is_refused(rt: HostRuntime) -> Result<(), Fail> {
-    let alloc = rt.alloc();
-    let mut short = String::from_str(alloc, "* title\nID: 1\nHealth: 0\n")?;
-    short.push_str(tail())?;
-    expect_refused(&rt, alloc, short.as_bytes(), TextWhy::Label, NO_ALMANAC)?;
-    expect_refused(&rt, alloc, b"", TextWhy::Label, NO_ALMANAC)?;
-    expect_refused(&rt, alloc, &[0, 255, 13, 10], TextWhy::Label, NO_ALMANAC)?;
-    // A path that holds nothing, as every other name does here.
-    let words = ["raim", "predict", "1", "2", "elsewhere"];
-    let text = almanac(alloc, 4, 4)?;
-    let left = run_with(alloc, &words, text.as_bytes(), SURE, SURE)?;
-    assert_eq!(rt; left.status.number(), 2);
-    Ok(())
-}
-
-// The almanac of four healthy satellites, with line feeds behind it up to so many bytes.
-fn padded(alloc: Global, length: usize) -> Result<Vec<u8>, Fail> {
-    let mut bytes = almanac(alloc, 4, 4)?.as_bytes().to_vec(alloc)?;
-    bytes.resize(length, b'\n')?;
-    Ok(bytes)
-}
-
-#[test]
-fn a_file_of_one_byte_too_many_is_refused(rt: HostRuntime) -> Result<(), Fail> {
-    let alloc = rt.alloc();
-    let longest = padded(alloc, LONGEST_FILE)?;
-    let left = run_with(alloc, &WORDS, &longest, SURE, SURE)?;
-    assert_eq!(rt; left.status, Status::Done);
-    let longer = padded(alloc, LONGEST_FILE + 1)?;
-    let note = "raim: almanac line 0: FileTooLong\n";
-    expect_refused(&rt, alloc, &longer, TextWhy::FileTooLong, note)
-}
-
-#[test]
-fn the_size_of_a_read_changes_nothing(rt: HostRuntime) -> Result<(), Fail> {
-    let alloc = rt.alloc();
-    let text = almanac(alloc, 4, 4)?;
-    for (desk_chunk, out_chunk) in [(1, 1), (2, 3), (63, 40)] {
-        let reads = Calls {
-            chunk: desk_chunk,
-            fails: &[],
-        };
-        let writes = Calls {
-            chunk: out_chunk,
-            fails: &[],
-        };
-        let left = run_with(alloc, &WORDS, text.as_bytes(), reads, writes)?;
-        assert_eq!(rt; left.status, Status::Done);
-        assert_eq!(rt; left.out.as_slice(), LINE.as_bytes());
-    }
-    Ok(())
-}
-
-#[test]
-fn each_call_of_the_desk_may_fail(rt: HostRuntime) -> Result<(), Fail> {
-    let alloc = rt.alloc();
-    let text = almanac(alloc, 4, 4)?;
-    for call in 1..1000u64 {
-        let reads = Calls {
-            chunk: 64,
-            fails: &[call],
-        };
-        let left = run_with(alloc, &WORDS, text.as_bytes(), reads, SURE)?;
-        if left.status == Status::Done {
-            // One call names the file, and one finds its end.
-            let reads = text.len().div_ceil(64) as u64;
-            assert_eq!(rt; left.calls, reads + 2);
-            assert_eq!(rt; call, reads + 3);
-            return Ok(());
-        }
-        let file = FileNo::Almanac;
-        assert_eq!(rt; left.status, Status::ReadFault { file });
-        assert_eq!(rt; left.failed, Some(file));
-        // No call follows the one that failed.
-        assert_eq!(rt; left.calls, call);
-        assert_eq!(rt; left.out.len(), 0);
-        let note = "raim: almanac: read fault\n";
-        assert_eq!(rt; left.note.as_slice(), note.as_bytes());
-    }
-    assert!(rt; false);
-    Ok(())
-}
-
-#[test]
-fn each_write_may_fail(rt: HostRuntime) -> Result<(), Fail> {
-    let alloc = rt.alloc();
-    let text = almanac(alloc, 4, 4)?;
-    for call in 1..100u64 {
-        let writes = Calls {
-            chunk: 5,
-            fails: &[call],
-        };
-        let left = run_with(alloc, &WORDS, text.as_bytes(), SURE, writes)?;
-        if left.status == Status::Done {
-            assert_eq!(rt; call, LINE.len().div_ceil(5) as u64 + 1);
-            assert_eq!(rt; left.out.as_slice(), LINE.as_bytes());
-            return Ok(());
-        }
-        assert_eq!(rt; left.status, Status::WriteFault);
-        assert_eq!(rt; left.out.len() as u64, 5 * (call - 1));
-        assert!(rt; LINE.as_bytes().starts_with(left.out.as_slice()));
-        let note = "raim: write fault\n";
-        assert_eq!(rt; left.note.as_slice(), note.as_bytes());
-    }
-    assert!(rt; false);
     Ok(())
 }
 
 fn surely_counted<L: Ledger>(
     alloc: Global,
     words: &[&str],
-    almanac: &[u8],
+    texts: Texts,
     blank: Blank,
 ) -> Result<Status, Fail>
     requires name { blank.name ≡ L.name }
@@ -349,73 +218,85 @@ fn surely_counted<L: Ledger>(
     requires some { 1 ≤ blank.parts }
 {
     let mut steps: Steps<L> = Steps::new(blank);
-    let texts = texts_of(alloc, words)?;
-    let mut desk = SureDesk::new(
-        Vec::new(alloc),
-        almanac.to_vec(alloc)?,
-        Vec::new(alloc),
-        Vec::new(alloc),
-    );
+    let words = texts_of(alloc, words)?;
+    let mut desk = sure_desk(alloc, texts)?;
     let mut out = SureSink::new();
     let mut note = SureSink::new();
-    Ok(run_surely(alloc, &texts, &mut desk, &mut out, &mut note, &mut steps))
+    Ok(run_surely(alloc, &words, &mut desk, &mut out, &mut note, &mut steps))
+}
+
+fn sure_desk(alloc: Global, texts: Texts) -> Result<SureDesk, Fail> {
+    Ok(SureDesk::new(
+        texts.limits.to_vec(alloc)?,
+        texts.almanac.to_vec(alloc)?,
+        texts.outages.to_vec(alloc)?,
+        texts.route.to_vec(alloc)?,
+    ))
 }
 
 #[test]
 fn where_nothing_fails_the_run_is_done(rt: HostRuntime) -> Result<(), Fail> {
     let alloc = rt.alloc();
-    let text = almanac(alloc, 4, 4)?;
-    let status = surely_counted::<Brand>(alloc, &WORDS, text.as_bytes(), Blank::new(1))?;
+    let almanac = five(alloc)?;
+    let texts = Texts {
+        limits: OPEN_LIMITS.as_bytes(),
+        almanac: almanac.as_bytes(),
+        outages: b"",
+        route: SECOND.as_bytes(),
+    };
+    let status = surely_counted::<Brand>(alloc, &PREDICT, texts, Blank::new(1))?;
     assert_eq!(rt; status, Status::Done);
     Ok(())
 }
 
-// What a process of these words over this almanac exits with, and what its streams hold.
+// What a process of these words over these texts exits with, and what its streams hold.
 fn end_of(
     alloc: Global,
     words: &[&str],
-    almanac: &[u8],
+    texts: Texts,
 ) -> Result<(ExitCode, Vec<u8>, Vec<u8>), Fail> {
-    let texts = texts_of(alloc, words)?;
-    let mut desk = SureDesk::new(
-        Vec::new(alloc),
-        almanac.to_vec(alloc)?,
-        Vec::new(alloc),
-        Vec::new(alloc),
-    );
+    let words = texts_of(alloc, words)?;
+    let mut desk = sure_desk(alloc, texts)?;
     let mut output: Vec<u8> = Vec::new(alloc);
     let mut error: Vec<u8> = Vec::new(alloc);
     let mut out: StdSink<&mut Vec<u8>> = StdSink::new(&mut output);
     let mut note: StdSink<&mut Vec<u8>> = StdSink::new(&mut error);
-    let code = run_to_end(alloc, &texts, &mut desk, &mut out, &mut note);
+    let code = run_to_end(alloc, &words, &mut desk, &mut out, &mut note);
     Ok((code, output, error))
 }
 
 #[test]
 fn a_process_exits_with_its_status(rt: HostRuntime) -> Result<(), Fail> {
     let alloc = rt.alloc();
-    let few = almanac(alloc, 4, 4)?;
-    let many = almanac(alloc, 6, 5)?;
-    let rows: [(&[&str], &[u8], u8, &str, &str); 4] = [
-        (&WORDS, few.as_bytes(), 0, LINE, ""),
+    let almanac = five(alloc)?;
+    let rows: [(&[&str], &str, &[u8], u8, &str, &str); 4] = [
+        (&PREDICT, OPEN_LIMITS, almanac.as_bytes(), 0, THREE_RUNS, ""),
+        (&["raim"], OPEN_LIMITS, almanac.as_bytes(), 1, "", USAGE),
         (
-            &["raim"],
-            few.as_bytes(),
-            1,
+            &PREDICT,
+            OPEN_LIMITS,
+            b"",
+            2,
             "",
-            "raim: usage: raim predict START END ALMANAC\n",
+            "raim: almanac line 0: Short\n",
         ),
-        (&WORDS, b"no almanac\n", 2, "", NO_ALMANAC),
         (
-            &WORDS,
-            many.as_bytes(),
-            8,
+            &PREDICT,
+            "leap 0\nmask -90\nalert 1\nbias 5 1000000000\n",
+            almanac.as_bytes(),
+            5,
             "",
-            "raim: not built: five healthy records\n",
+            "raim: overflow at 2024-10-27T00:00:00.000Z PRN 01\n",
         ),
     ];
-    for (words, text, number, output, error) in rows {
-        let (code, out, note) = end_of(alloc, words, text)?;
+    for (words, limits, almanac, number, output, error) in rows {
+        let texts = Texts {
+            limits: limits.as_bytes(),
+            almanac,
+            outages: OUTAGE.as_bytes(),
+            route: SECOND.as_bytes(),
+        };
+        let (code, out, note) = end_of(alloc, words, texts)?;
         assert_eq!(rt; code, ExitCode::from(number));
         assert_eq!(rt; out.as_slice(), output.as_bytes());
         assert_eq!(rt; note.as_slice(), error.as_bytes());

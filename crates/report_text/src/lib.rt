@@ -14,3 +14,4 @@ mod verdict_text;
 pub use laws::printing_and_reading_are_inverse;
 pub use printing::print_report;
 pub use reading::read_report;
+pub use verdict_text::words_of_verdict;

@@ -3,7 +3,7 @@ use Rattle.std.specs.Prelude.{◌≡◌, ℕ, Bool, true, false, if◌then◌els
 use Rattle.std.specs.declared.option.Option.{Option}
 use Rattle.slope_laws.specs.declared.Outcome.{Outcome}
 use Rattle.slope_laws.specs.Rows.{Removal}
-use Rattle.std.proofs.Common.{◌∙◌, ap, sym}
+use Rattle.std.proofs.Common.{◌∙◌, ap}
 use Rattle.slope_laws.specs.declared.Outcome.TheVariants.{Passes}
 use Rattle.slope_laws.specs.Slopes.{first_such}
 use Rattle.slope_test.specs.Tallies.{kept_first}

@@ -3,17 +3,12 @@ use Rattle.std.specs.Prelude.{◌≡◌, ℕ, zero, suc, ◌+◌, ◌<◌, List,
 use Rattle.std.proofs.Common.{arith, ap, ◌∙◌}
 use Rattle.std.proofs.lemmas.List.{take_more, length-map}
 use Rattle.fix_interval.specs.Ends.{Ends}
-use Rattle.fix_interval.specs.Products.{mul_wide_of, checked_mul_of}
 use Rattle.geometry_laws.specs.Without.{without}
-use Rattle.geom_laws.specs.Rows.{RowEnds}
-use Rattle.geom_laws.specs.Symmetric.{SymEnds}
-use Rattle.geom_laws.specs.Gram.{gram_of, gram_without_of}
-use Rattle.geom_laws.specs.Determinant.{det_of}
+use Rattle.geom_laws.specs.Gram.{gram_of}
 use Rattle.geom_laws.specs.Adjugate.{adjugate_of}
-use Rattle.slope_laws.specs.declared.Outcome.{Outcome}
 use Rattle.slope_laws.specs.Rows.{NamedRow, Removal, behind, removals}
 use Rattle.slope_laws.specs.declared.Shift.{Shift}
-use Rattle.slope_laws.specs.ShiftSlopes.{compared, squared_of, outcome_of, ends_of, determinant_of, slopes_for}
+use Rattle.slope_laws.specs.ShiftSlopes.{outcome_of, ends_of, determinant_of, slopes_for}
 use Rattle.geom_inverse.specs.declared.Row.{Row}
 use Rattle.geom_inverse.specs.Views.{row_ends, rows_ends}
 use Rattle.slope_test.specs.Named.{named_row, named, slopes_over}
@@ -40,7 +35,7 @@ pub ends-named : (rows : List Row) → ends_of (named rows) ≡ rows_ends rows
 ends-named [] = refl
 ends-named (r ∷ rs) = ap (λ t. row_ends r ∷ t) (ends-named rs)
 
-named_at : (rows : List Row) (i : ℕ) (d : Row) → i < length rows → slice_index_or (named rows) i (named_row d) ≡ named_row (slice_index_or rows i d)
+pub named_at : (rows : List Row) (i : ℕ) (d : Row) → i < length rows → slice_index_or (named rows) i (named_row d) ≡ named_row (slice_index_or rows i d)
 named_at [] i d p = absurd (omega arith)
 named_at (r ∷ rs) zero d p = refl
 named_at (r ∷ rs) (suc i) d p = named_at rs i d (omega arith)

@@ -26,14 +26,14 @@ use raim_model::{Cmp, Why};
 use slope_laws::{Outcome, Shift, SubsetVerdict};
 
 /// The least determinant of a geometry that counts as regular, 2^-10 in units of 2^-38.
-const LEAST: i64 = 268435456;
+pub(crate) const LEAST: i64 = 268435456;
 
 /// In the place of a determinant that is not known yet.
 const NONE: Iv64 = Iv64 { lo: 0, hi: 1 };
 
 /// How the slope of a row compares, where the adjugate and the determinant of all rows and the determinant of those without it
 /// are at hand.
-fn slope_at(
+pub(crate) fn slope_at(
     shift: Shift,
     row: &Row,
     adj: &Sym4,

@@ -4,7 +4,11 @@
 #![tactic(auto)]
 
 mod detection;
+mod marks;
 mod slope;
 mod tally;
+mod told;
 
 pub use detection::{detect, detect_from, detect_over};
+pub use marks::Marks;
+pub use told::{detect_over_told, detect_told};

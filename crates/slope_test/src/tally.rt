@@ -28,7 +28,7 @@ fn keep_first(kept: Option<u8>, is: bool, prn: u8) -> Option<u8>
 }
 
 /// Whether it passes.
-fn passes(outcome: Outcome) -> bool
+pub(crate) fn passes(outcome: Outcome) -> bool
     ensures { result ≡ true → outcome ≡ Passes }
 {
     matches!(outcome, Outcome::Passes)

@@ -8,7 +8,12 @@ mod halve;
 mod judge;
 mod place;
 mod plain;
+mod told;
+mod told_judge;
+mod untold;
 
 pub use halve::split;
 pub use judge::Judge;
 pub use plain::split_each;
+pub use told::split_told;
+pub use told_judge::ToldJudge;

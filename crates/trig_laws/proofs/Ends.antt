@@ -1,7 +1,7 @@
 -- The ends of the sine and of the cosine of at most an eighth of a turn, each from one chain.
 use Rattle.std.specs.Prelude.{◌≡◌, ℕ, ℤ, pos, ◌^◌, ◌≤◌, ◌*ℤ◌, ◌≤ℤ◌, Bool, true, false, cond, refl}
 use Rattle.std.proofs.Common.{arith, ap, ap₂, ◌∙◌}
-use Rattle.std.proofs.lemmas.Int.{ints, clamps}
+use Rattle.std.proofs.lemmas.Int.{ints}
 use Rattle.std.specs.Int.{int_min, int_max}
 use lib.Signed.{le_z}
 use Rattle.whole_numbers.specs.Rounding.{floor_of, ceil_of}

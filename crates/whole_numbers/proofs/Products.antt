@@ -1,8 +1,7 @@
 -- Products and the order: products by one factor, and the products over a box, which lie between its corners.
 use Rattle.std.proofs.Common.{⊎_elim, [], ◌∷◌, ℤ, pos, ◌+ℤ◌, ◌-ℤ◌, ◌*ℤ◌, ◌≤ℤ◌}
 use Rattle.std.proofs.Common.{arith}
-use Rattle.std.specs.Int.{int_min, int_max}
-use Rattle.std.proofs.lemmas.Int.{ints, clamps}
+use Rattle.std.proofs.lemmas.Int.{ints}
 use Rattle.whole_numbers.specs.Algebra.{IsCompatibleOrder}
 use Rattle.whole_numbers.specs.Corners.{least_corner, greatest_corner}
 use Rattle.whole_numbers.proofs.FourNumbers.{least_least, greatest_greatest}

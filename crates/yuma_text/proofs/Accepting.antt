@@ -22,10 +22,10 @@ use Rattle.text_lines.proofs.Rising.{none_before}
 use Rattle.text_lines.proofs.SomeReading.{accepted_or_refused}
 use Rattle.yuma_text.specs.declared.line_kind.LineKind.{LineKind}
 use Rattle.yuma_text.specs.declared.line_kind.LineKind.TheVariants as kind
-use Rattle.yuma_text.specs.declared.record_entry.RecordEntry.{RecordEntry}
-use Rattle.yuma_text.specs.declared.record_entry.RecordEntry.TheVariants as entry
+use Rattle.yuma_text.specs.declared.entry.Entry.{Entry}
+use Rattle.yuma_text.specs.declared.entry.Entry.TheVariants as entry
 use Rattle.yuma_text.specs.LineKinds.{label_of}
-use Rattle.yuma_text.specs.Records.{RecordsSaid, yuma_lines, yuma_records, records_in, said_behind, record_entry_of, words_entry_of, line_entry_of, end_at, decimal_value, time_value, angle_of, clock_value, week_value, zero}
+use Rattle.yuma_text.specs.Yuma.{Said, yuma_lines, yuma_records, records_in, said_behind, entry_of, words_entry_of, line_entry_of, end_at, decimal_value, time_value, angle_of, clock_value, week_value, zero}
 use Rattle.yuma_text.specs.Almanac.{value_at, title_at, prn_at, health_at, eccentricity_at, time_at, inclination_at, rate_at, sqrt_a_at, angle_at, clock_at, toa_at, begins_with_star, record_at, IsAlmanac}
 use Rattle.yuma_text.proofs.RecordFacts.{place, kinds_before, Facts}
 use Rattle.yuma_text.proofs.AlmanacLemmas.{Sound, all_sound, means_records}
@@ -173,13 +173,13 @@ module _ (first end : ℕ) where
   same_time _ begun rest line c t u f h l r p = p
 
   -- what a value makes of a line
-  makes : {A : Type 0} (k : LineKind) (read : Text → Result A TextWhy) (make : A → RecordEntry) (line : Text) (x : A) → value_at k read line ≡ Ok x
+  makes : {A : Type 0} (k : LineKind) (read : Text → Result A TextWhy) (make : A → Entry) (line : Text) (x : A) → value_at k read line ≡ Ok x
       → (labelled (label_of k) line >>= (λ value. read value >>= (λ y. Ok (make y)))) ≡ Ok (make x)
   makes k read make line x h = let p = bind_then (labelled (label_of k) line) read x h in rw (p.1, p.2) refl
 
   -- a line that passes is taken
-  taken : (said : RecordsSaid) (k : LineKind) (word : Text) (words : List Text) (line : Text) (r : AlmRecord) → words_of line ≡ word ∷ words → Passes k line r said.time
-      → list_any (λ x. x.prn == r.prn) said.records ≡ false → length said.records < 32 → (e : RecordEntry) × (line_entry_of first end said k word line ≡ Ok e)
+  taken : (said : Said) (k : LineKind) (word : Text) (words : List Text) (line : Text) (r : AlmRecord) → words_of line ≡ word ∷ words → Passes k line r said.time
+      → list_any (λ x. x.prn == r.prn) said.records ≡ false → length said.records < 32 → (e : Entry) × (line_entry_of first end said k word line ≡ Ok e)
   taken said kind.Title word words line r w p new room =
       let star = (unless_then (not (begins_with_star (words_of line))) Label (Ok line) p.0 p.1).0 in
       let here : not (begins_with_star (word ∷ words)) ≡ false = ap (λ (ws : List Text). not (begins_with_star ws)) (sym w) ∙ star in
@@ -205,14 +205,14 @@ module _ (first end : ℕ) where
   not_blank [] h = cc
   not_blank (word ∷ rest) h = (word, rest, refl)
 
-  nonblank_taken : (said : RecordsSaid) (line : Text) (r : AlmRecord) → is_nonblank line ≡ true → Passes said.kind line r said.time
-      → list_any (λ x. x.prn == r.prn) said.records ≡ false → length said.records < 32 → (e : RecordEntry) × (record_entry_of first end said line ≡ Ok e)
+  nonblank_taken : (said : Said) (line : Text) (r : AlmRecord) → is_nonblank line ≡ true → Passes said.kind line r said.time
+      → list_any (λ x. x.prn == r.prn) said.records ≡ false → length said.records < 32 → (e : Entry) × (entry_of first end said line ≡ Ok e)
   nonblank_taken said line r nonblank p new room =
       let w = not_blank (words_of line) nonblank in
       let t = taken said said.kind w.0 w.1 line r w.2 p new room in
       (t.0, ap (λ (ws : List Text). words_entry_of first end said ws line) w.2 ∙ t.1)
 
-  blank_taken : (said : RecordsSaid) (line : Text) → is_nonblank line ≡ false → record_entry_of first end said line ≡ Ok entry.Blank
+  blank_taken : (said : Said) (line : Text) → is_nonblank line ≡ false → entry_of first end said line ≡ Ok entry.Blank
   blank_taken said line h = go (words_of line) h
     where
       go : (words : List Text) → is_some_word words ≡ false → words_entry_of first end said words line ≡ Ok entry.Blank
@@ -228,7 +228,7 @@ module _ (first end : ℕ) where
       → (number : ℕ) (why : TextWhy) → RefusesLine (yuma_lines first end) lines number why → ⊥
   line_passes lines records parts whole each differ few number why r = go (is_nonblank r.line) refl
     where
-      said : RecordsSaid
+      said : Said
       said = said_behind r.entries
 
       s : Sound first end r.done said
@@ -246,7 +246,7 @@ module _ (first end : ℕ) where
       begun_length = facts_length (kinds_before said.kind) s.open_lines said.current said.time s.begun ∙ (place_is said.kind).0
 
       go : (t : Bool) → is_nonblank r.line ≡ t → ⊥
-      go false h = ok_or_err (record_entry_of first end said r.line) entry.Blank why (blank_taken said r.line h) r.here
+      go false h = ok_or_err (entry_of first end said r.line) entry.Blank why (blank_taken said r.line h) r.here
       go true h =
           let low : length s.open_lines < 14 = let n = begun_length in let m = (place_is said.kind).1 in omega (arith, n, m) in
           let o = open_part (record_at first end) 14 (fourteen first end) s.parts parts said.records records s.open_lines r.line (filter is_nonblank r.rest) s.each each low (cut h) in
@@ -257,7 +257,7 @@ module _ (first end : ℕ) where
           let q = same_time said.kind s.open_lines o.rest r.line said.current said.time a.time s.begun a.said_time r.line o.rec p in
           let new = none_before (λ (x : AlmRecord). x.prn) said.records o.rec o.after (subst Differ o.records differ) in
           let t = nonblank_taken said r.line o.rec h q new (few_before records said.records o.after o.rec o.records few) in
-          ok_or_err (record_entry_of first end said r.line) t.0 why t.1 r.here
+          ok_or_err (entry_of first end said r.line) t.0 why t.1 r.here
 
   none_begun : (k : LineKind) (ls : List Text) (c : AlmRecord) (t : ℕ) (records : List AlmRecord) (why : TextWhy) → Facts first end (kinds_before k) ls c t → ls ≡ [] → 1 ≤ length records
       → end_at k records ≡ Some why → ⊥
@@ -291,7 +291,7 @@ module _ (first end : ℕ) where
 
 -- what is an almanac is accepted, and says its records
 pub is_accepted : (span : Span) (lines : List Text) (records : List AlmRecord) → IsAlmanac span lines records
-    → (entries : List RecordEntry) × Accepts (yuma_records span) lines entries × (records ≡ records_in entries)
+    → (entries : List Entry) × Accepts (yuma_records span) lines entries × (records ≡ records_in entries)
 is_accepted span lines records a = go (accepted_or_refused (yuma_records span) lines)
   where
     first : ℕ
@@ -304,8 +304,8 @@ is_accepted span lines records a = go (accepted_or_refused (yuma_records span) l
     never number why (inl r) = line_passes first end lines records a.parts a.whole a.each a.distinct a.few number why r
     never number why (inr r) = end_passes first end lines records a.parts a.whole a.each a.some number why r
 
-    go : ((entries : List RecordEntry) × Accepts (yuma_records span) lines entries) ⊎ ((number : ℕ) × (why : TextWhy) × Refuses (yuma_records span) lines number why)
-        → (entries : List RecordEntry) × Accepts (yuma_records span) lines entries × (records ≡ records_in entries)
+    go : ((entries : List Entry) × Accepts (yuma_records span) lines entries) ⊎ ((number : ℕ) × (why : TextWhy) × Refuses (yuma_records span) lines number why)
+        → (entries : List Entry) × Accepts (yuma_records span) lines entries × (records ≡ records_in entries)
     go (inl e) =
         let m = means_records span lines e.0 e.1 in
         let n = none_open (record_at first end) 14 (fourteen first end) m.parts a.parts (records_in e.0) records [] m.each a.each (omega arith)

@@ -13,14 +13,14 @@ use Rattle.text_lines.specs.Words.{is_nonblank}
 use Rattle.text_lines.specs.Reading.{Reads, Accepts}
 use Rattle.yuma_text.specs.declared.line_kind.LineKind.{LineKind}
 use Rattle.yuma_text.specs.declared.line_kind.LineKind.TheVariants as kind
-use Rattle.yuma_text.specs.declared.record_entry.RecordEntry.{RecordEntry}
-use Rattle.yuma_text.specs.declared.record_entry.RecordEntry.TheVariants as entry
+use Rattle.yuma_text.specs.declared.entry.Entry.{Entry}
+use Rattle.yuma_text.specs.declared.entry.Entry.TheVariants as entry
 use Rattle.yuma_text.specs.LineKinds.{kind_after}
-use Rattle.yuma_text.specs.Records.{RecordsSaid, yuma_lines, yuma_records, records_in, said_behind, said_next, records_first, record_entry_of, records_after, current_after, time_after, end_at, is_blank}
-use Rattle.yuma_text.specs.RecordDrafts.{HasRoom}
+use Rattle.yuma_text.specs.Yuma.{Said, yuma_lines, yuma_records, records_in, said_behind, said_next, said_first, entry_of, records_after, current_after, time_after, end_at, is_blank}
+use Rattle.yuma_text.specs.Drafts.{HasRoom}
 use Rattle.yuma_text.specs.Almanac.{record_at, IsAlmanac}
 use Rattle.yuma_text.proofs.LineFacts.{SaysLine, entry_says}
-use Rattle.yuma_text.proofs.RecordLemmas.{said_behind-append, room_more, HasRoomSaid}
+use Rattle.yuma_text.proofs.YumaLemmas.{said_behind-append, room_more, HasRoomSaid}
 use Rattle.yuma_text.proofs.RecordFacts.{kinds_before, Facts, one_more, whole_record, no_more}
 
 -- the PRN of the record that is open is that of no whole record
@@ -30,7 +30,7 @@ Apart kind.Prn records c = Unit {0}
 Apart _ records c = list_any (λ r. r.prn == c.prn) records ≡ false
 
 -- what is true behind each line: the nonblank lines so far are whole records, and the front of one
-pub record Sound (first end : ℕ) (lines : List Text) (said : RecordsSaid) : Type 0 where
+pub record Sound (first end : ℕ) (lines : List Text) (said : Said) : Type 0 where
   pub parts : List (List Text)
   pub open_lines : List Text
   pub split : filter is_nonblank lines ≡ flat_map (λ part. part) parts ++ open_lines
@@ -41,7 +41,7 @@ pub record Sound (first end : ℕ) (lines : List Text) (said : RecordsSaid) : Ty
   pub few : length said.records ≤ 32
   pub room : HasRoomSaid said
 
-apart_next : (first end : ℕ) (said : RecordsSaid) (k : LineKind) (line : Text) (e : RecordEntry) → SaysLine first end said k line e → Apart k said.records said.current
+apart_next : (first end : ℕ) (said : Said) (k : LineKind) (line : Text) (e : Entry) → SaysLine first end said k line e → Apart k said.records said.current
     → Apart (kind_after k) (records_after said.records (current_after said.current e) e) (current_after said.current e)
 apart_next first end said kind.Title line e s h = tt
 apart_next first end said kind.Prn line e s h =
@@ -75,7 +75,7 @@ blank_more lines line h = filter-append is_nonblank lines (line ∷ []) ∙ ap (
 
 module _ (first end : ℕ) where
   -- a line that goes on with a record
-  goes_on : (lines : List Text) (said next : RecordsSaid) (line : Text) → is_nonblank line ≡ true → next.records ≡ said.records → HasRoomSaid next → Apart next.kind next.records next.current
+  goes_on : (lines : List Text) (said next : Said) (line : Text) → is_nonblank line ≡ true → next.records ≡ said.records → HasRoomSaid next → Apart next.kind next.records next.current
       → (s : Sound first end lines said) → Facts first end (kinds_before next.kind) (s.open_lines ++ line ∷ []) next.current next.time → Sound first end (lines ++ line ∷ []) next
   goes_on lines said next line nonblank same room apart s facts = record {
     parts = s.parts;
@@ -90,7 +90,7 @@ module _ (first end : ℕ) where
   }
 
   -- the line that ends a record
-  ends : (lines : List Text) (said next : RecordsSaid) (line : Text) (c : AlmRecord) → is_nonblank line ≡ true → next.records ≡ said.records ++ c ∷ [] → next.kind ≡ kind.Title
+  ends : (lines : List Text) (said next : Said) (line : Text) (c : AlmRecord) → is_nonblank line ≡ true → next.records ≡ said.records ++ c ∷ [] → next.kind ≡ kind.Title
       → length said.records < 32 → list_any (λ r. r.prn == c.prn) said.records ≡ false
       → (s : Sound first end lines said) → record_at first end (s.open_lines ++ line ∷ []) ≡ Ok c → Sound first end (lines ++ line ∷ []) next
   ends lines said next line c nonblank grown title room new s whole =
@@ -112,7 +112,7 @@ module _ (first end : ℕ) where
       }
 
   -- what is said behind a line of kind k
-  abbrev behind : RecordsSaid → LineKind → RecordEntry → RecordsSaid
+  abbrev behind : Said → LineKind → Entry → Said
   behind said k e = record {
     kind = kind_after k;
     current = current_after said.current e;
@@ -120,7 +120,7 @@ module _ (first end : ℕ) where
     records = records_after said.records (current_after said.current e) e;
   }
 
-  goes_on_by : (lines : List Text) (said : RecordsSaid) (k : LineKind) (line : Text) (e : RecordEntry) → is_nonblank line ≡ true → SaysLine first end said k line e
+  goes_on_by : (lines : List Text) (said : Said) (k : LineKind) (line : Text) (e : Entry) → is_nonblank line ≡ true → SaysLine first end said k line e
       → HasRoomSaid (behind said k e) → Apart k said.records said.current → records_after said.records (current_after said.current e) e ≡ said.records
       → kinds_before k ++ k ∷ [] ≡ kinds_before (kind_after k)
       → (s : Sound first end lines said) → Facts first end (kinds_before k) s.open_lines said.current said.time → Sound first end (lines ++ line ∷ []) (behind said k e)
@@ -129,7 +129,7 @@ module _ (first end : ℕ) where
       (subst (λ (ks : List LineKind). Facts first end ks (s.open_lines ++ line ∷ []) (current_after said.current e) (time_after said.time e)) kinds
       (one_more first end said k line e s.open_lines says begun))
 
-  by_kind : (lines : List Text) (said : RecordsSaid) (k : LineKind) (line : Text) (e : RecordEntry) → is_nonblank line ≡ true → SaysLine first end said k line e
+  by_kind : (lines : List Text) (said : Said) (k : LineKind) (line : Text) (e : Entry) → is_nonblank line ≡ true → SaysLine first end said k line e
       → HasRoomSaid (behind said k e) → Apart k said.records said.current → HasRoom k said.records
       → (s : Sound first end lines said) → Facts first end (kinds_before k) s.open_lines said.current said.time → Sound first end (lines ++ line ∷ []) (behind said k e)
   by_kind lines said kind.Title line e nonblank says room apart here s f = goes_on_by lines said kind.Title line e nonblank says room apart (rw says.2 refl) refl s f
@@ -149,7 +149,7 @@ module _ (first end : ℕ) where
       ends lines said (behind said kind.Week e) line (current_after said.current e) nonblank (rw says.2 refl) refl here (rw says.2 apart) s
       (whole_record first end (s.open_lines ++ line ∷ []) (current_after said.current e) (time_after said.time e) (one_more first end said kind.Week line e s.open_lines says f))
 
-  entry_nonblank : (said : RecordsSaid) (k : LineKind) (line : Text) (e : RecordEntry) → SaysLine first end said k line e → is_blank e ≡ false
+  entry_nonblank : (said : Said) (k : LineKind) (line : Text) (e : Entry) → SaysLine first end said k line e → is_blank e ≡ false
   entry_nonblank said kind.Title line e says = rw says.2 refl
   entry_nonblank said kind.Prn line e says = rw says.4 refl
   entry_nonblank said kind.Health line e says = rw says.2 refl
@@ -165,15 +165,15 @@ module _ (first end : ℕ) where
   entry_nonblank said kind.Af1 line e says = rw says.2 refl
   entry_nonblank said kind.Week line e says = rw says.2 refl
 
-  next_is : (said : RecordsSaid) (e : RecordEntry) → is_blank e ≡ false → behind said said.kind e ≡ said_next said e
+  next_is : (said : Said) (e : Entry) → is_blank e ≡ false → behind said said.kind e ≡ said_next said e
   next_is said e h = rw h refl
 
   -- one more line
-  step : (lines : List Text) (said : RecordsSaid) (line : Text) (e : RecordEntry) → record_entry_of first end said line ≡ Ok e → Sound first end lines said → Sound first end (lines ++ line ∷ []) (said_next said e)
+  step : (lines : List Text) (said : Said) (line : Text) (e : Entry) → entry_of first end said line ≡ Ok e → Sound first end lines said → Sound first end (lines ++ line ∷ []) (said_next said e)
   step lines said line e h s = go (entry_says first end said line e h)
     where
       go : ((is_nonblank line ≡ false) × (e ≡ entry.Blank)) ⊎ ((is_nonblank line ≡ true) × SaysLine first end said said.kind line e) → Sound first end (lines ++ line ∷ []) (said_next said e)
-      go (inl b) = subst (λ (x : RecordEntry). Sound first end (lines ++ line ∷ []) (said_next said x)) (sym b.1) (record {
+      go (inl b) = subst (λ (x : Entry). Sound first end (lines ++ line ∷ []) (said_next said x)) (sym b.1) (record {
         parts = s.parts;
         open_lines = s.open_lines;
         split = blank_more lines line b.0 ∙ s.split;
@@ -191,7 +191,7 @@ module _ (first end : ℕ) where
           subst (Sound first end (lines ++ line ∷ [])) same
           (by_kind lines said said.kind line e p.0 p.1 (subst HasRoomSaid (sym same) room) s.apart s.room s s.begun)
 
-  none : Sound first end [] records_first
+  none : Sound first end [] said_first
   none = record {
     parts = [];
     open_lines = [];
@@ -204,7 +204,7 @@ module _ (first end : ℕ) where
     room = tt;
   }
 
-  front : (lines : List Text) (entries : List RecordEntry) → Reads (yuma_lines first end) lines entries → (k : ℕ) → k ≤ length lines → Sound first end (take k lines) (said_behind (take k entries))
+  front : (lines : List Text) (entries : List Entry) → Reads (yuma_lines first end) lines entries → (k : ℕ) → k ≤ length lines → Sound first end (take k lines) (said_behind (take k entries))
   front lines entries r zero h = none
   front lines entries r (suc k) h =
       let below : k < length lines = omega arith in
@@ -214,14 +214,14 @@ module _ (first end : ℕ) where
       let before = front lines entries r k (omega arith) in
       let next = step (take k lines) (said_behind (take k entries)) line e (r.each k entry.Blank below) before in
       let more : said_behind (take (suc k) entries) ≡ said_next (said_behind (take k entries)) e =
-      ap (λ (es : List RecordEntry). said_behind es) (take-suc entries k entry.Blank few) ∙ said_behind-append (take k entries) e in
+      ap (λ (es : List Entry). said_behind es) (take-suc entries k entry.Blank few) ∙ said_behind-append (take k entries) e in
       subst (λ (ls : List Text). Sound first end ls (said_behind (take (suc k) entries))) (sym (take-suc lines k [] below))
       (subst (Sound first end (take k lines ++ line ∷ [])) (sym more) next)
 
-  pub all_sound : (lines : List Text) (entries : List RecordEntry) → Reads (yuma_lines first end) lines entries → Sound first end lines (said_behind entries)
+  pub all_sound : (lines : List Text) (entries : List Entry) → Reads (yuma_lines first end) lines entries → Sound first end lines (said_behind entries)
   all_sound lines entries r =
       subst (λ (ls : List Text). Sound first end ls (said_behind entries)) (take-length lines)
-      (subst (λ (es : List RecordEntry). Sound first end (take (length lines) lines) (said_behind es)) (ap (λ n. take n entries) (sym r.count) ∙ take-length entries)
+      (subst (λ (es : List Entry). Sound first end (take (length lines) lines) (said_behind es)) (ap (λ n. take n entries) (sym r.count) ∙ take-length entries)
       (front lines entries r (length lines) (omega arith)))
 
 at_end : (k : LineKind) (records : List AlmRecord) → end_at k records ≡ None → (k ≡ kind.Title) × (1 ≤ length records)
@@ -242,7 +242,7 @@ at_end kind.Af1 rs h = cc
 at_end kind.Week rs h = cc
 
 -- an accepted almanac means its records
-pub means_records : (span : Span) (lines : List Text) (entries : List RecordEntry) → Accepts (yuma_records span) lines entries → IsAlmanac span lines (records_in entries)
+pub means_records : (span : Span) (lines : List Text) (entries : List Entry) → Accepts (yuma_records span) lines entries → IsAlmanac span lines (records_in entries)
 means_records span lines entries a =
     let first = unsigned_abs span.first in
     let end = unsigned_abs span.end in

@@ -10,17 +10,17 @@ use Rattle.text_lines.specs.Fields.{◌>>=◌, labelled, whole_value_in, unless}
 use Rattle.text_lines.proofs.FieldLemmas.{bind_then, ok_is}
 use Rattle.yuma_text.specs.declared.line_kind.LineKind.{LineKind}
 use Rattle.yuma_text.specs.declared.line_kind.LineKind.TheVariants as kind
-use Rattle.yuma_text.specs.declared.record_entry.RecordEntry.{RecordEntry}
-use Rattle.yuma_text.specs.declared.record_entry.RecordEntry.TheVariants as entry
+use Rattle.yuma_text.specs.declared.entry.Entry.{Entry}
+use Rattle.yuma_text.specs.declared.entry.Entry.TheVariants as entry
 use Rattle.yuma_text.specs.LineKinds.{label_of}
-use Rattle.yuma_text.specs.Records.{RecordsSaid, record_entry_of, words_entry_of, line_entry_of, prn_of, decimal_value, time_value, angle_of, clock_value, week_value, zero}
+use Rattle.yuma_text.specs.Yuma.{Said, entry_of, words_entry_of, line_entry_of, prn_of, decimal_value, time_value, angle_of, clock_value, week_value, zero}
 use Rattle.yuma_text.specs.Almanac.{value_at, title_at, prn_at, health_at, eccentricity_at, time_at, sqrt_a_at, clock_at, toa_at, begins_with_star}
 
 -- what a line of a kind says: its value, and the entry
-abbrev pub Values : {A : Type 0} → (Text → Result A TextWhy) → (A → RecordEntry) → Text → RecordEntry → Type 0
+abbrev pub Values : {A : Type 0} → (Text → Result A TextWhy) → (A → Entry) → Text → Entry → Type 0
 Values {A = A} read make line e = (x : A) × (read line ≡ Ok x) × (e ≡ make x)
 
-abbrev pub SaysLine : (first end : ℕ) → RecordsSaid → LineKind → Text → RecordEntry → Type 0
+abbrev pub SaysLine : (first end : ℕ) → Said → LineKind → Text → Entry → Type 0
 SaysLine first end said kind.Title line e = Values title_at (λ t. entry.Title) line e
 SaysLine first end said kind.Prn line e = (prn : ℕ) × (prn_at line ≡ Ok prn) × (fresh : ℕ) × (fresh_prn_of said.records prn ≡ Ok fresh) × (e ≡ entry.Prn fresh)
 SaysLine first end said kind.Health line e = Values health_at (λ x. entry.Health x) line e
@@ -36,18 +36,18 @@ SaysLine first end said kind.Af0 line e = Values (clock_at kind.Af0) (λ x. entr
 SaysLine first end said kind.Af1 line e = Values (clock_at kind.Af1) (λ x. entry.Clock) line e
 SaysLine first end said kind.Week line e = Values (toa_at first end said.time) (λ x. entry.TimeOfApplicability x) line e
 
-value_said : {A : Type 0} (k : LineKind) (read : Text → Result A TextWhy) (make : A → RecordEntry) (line : Text) (e : RecordEntry)
+value_said : {A : Type 0} (k : LineKind) (read : Text → Result A TextWhy) (make : A → Entry) (line : Text) (e : Entry)
     → (labelled (label_of k) line >>= (λ value. read value >>= (λ x. Ok (make x)))) ≡ Ok e → Values (value_at k read) make line e
 value_said k read make line e h =
     let p = bind_then (labelled (label_of k) line) (λ value. read value >>= (λ x. Ok (make x))) e h in
     let q = bind_then (read p.0) (λ x. Ok (make x)) e p.2 in
     (q.0, ap (λ r. r >>= read) p.1 ∙ q.1, sym (ok_is (make q.0) e q.2))
 
-title_said : (starts : Bool) (line : Text) (e : RecordEntry) → unless (not starts) Label (Ok entry.Title) ≡ Ok e → (t : Text) × (unless (not starts) Label (Ok line) ≡ Ok t) × (e ≡ entry.Title)
+title_said : (starts : Bool) (line : Text) (e : Entry) → unless (not starts) Label (Ok entry.Title) ≡ Ok e → (t : Text) × (unless (not starts) Label (Ok line) ≡ Ok t) × (e ≡ entry.Title)
 title_said true line e h = (line, refl, cc)
 title_said false line e h = cc
 
-line_says : (first end : ℕ) (said : RecordsSaid) (k : LineKind) (word : Text) (words : List Text) (line : Text) (e : RecordEntry) → words_of line ≡ word ∷ words
+line_says : (first end : ℕ) (said : Said) (k : LineKind) (word : Text) (words : List Text) (line : Text) (e : Entry) → words_of line ≡ word ∷ words
     → line_entry_of first end said k word line ≡ Ok e → SaysLine first end said k line e
 line_says first end said kind.Title word words line e w h = rw w (title_said (begins_with_star (word ∷ words)) line e h)
 line_says first end said kind.Prn word words line e w h =
@@ -69,7 +69,7 @@ line_says first end said kind.Af1 word words line e w h = value_said kind.Af1 cl
 line_says first end said kind.Week word words line e w h = value_said kind.Week (week_value first end said.time) (λ x. entry.TimeOfApplicability x) line e h
 
 -- a line that passes is blank, or says what the expected line says
-pub entry_says : (first end : ℕ) (said : RecordsSaid) (line : Text) (e : RecordEntry) → record_entry_of first end said line ≡ Ok e
+pub entry_says : (first end : ℕ) (said : Said) (line : Text) (e : Entry) → entry_of first end said line ≡ Ok e
     → ((is_nonblank line ≡ false) × (e ≡ entry.Blank)) ⊎ ((is_nonblank line ≡ true) × SaysLine first end said said.kind line e)
 entry_says first end said line e h = go (words_of line) refl h
   where

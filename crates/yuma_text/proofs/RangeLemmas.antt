@@ -22,9 +22,9 @@ use Rattle.almanac_fields.proofs.RangeLemmas.{whole_within, toa_near, AreNear, I
 use Rattle.yuma_text.specs.declared.line_kind.LineKind.{LineKind}
 use Rattle.yuma_text.specs.declared.line_kind.LineKind.TheVariants as kind
 use Rattle.yuma_text.specs.LineKinds.{label_of}
-use Rattle.yuma_text.specs.Records.{zero as no_dec, decimal_value, week_value, records_in}
+use Rattle.yuma_text.specs.Yuma.{zero as no_dec, decimal_value, week_value, records_in}
 use Rattle.yuma_text.specs.Almanac.{value_at, title_at, prn_at, health_at, eccentricity_at, time_at, radians_at, inclination_at, rate_at, sqrt_a_at, angle_at, clock_at, toa_at, record_at}
-use Rattle.yuma_text.specs.RecordAnswers.{SayRecords}
+use Rattle.yuma_text.specs.Answers.{SayRecords}
 use Rattle.yuma_text.proofs.AlmanacLemmas.{means_records}
 
 -- what each value of a kind has, the value of a line has

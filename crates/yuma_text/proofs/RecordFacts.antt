@@ -10,8 +10,8 @@ use Rattle.text_lines.specs.Lines.{Text}
 use Rattle.text_lines.specs.Fields.{◌>>=◌}
 use Rattle.yuma_text.specs.declared.line_kind.LineKind.{LineKind}
 use Rattle.yuma_text.specs.declared.line_kind.LineKind.TheVariants as kind
-use Rattle.yuma_text.specs.declared.record_entry.RecordEntry.{RecordEntry}
-use Rattle.yuma_text.specs.Records.{RecordsSaid, current_after, time_after}
+use Rattle.yuma_text.specs.declared.entry.Entry.{Entry}
+use Rattle.yuma_text.specs.Yuma.{Said, current_after, time_after}
 use Rattle.yuma_text.specs.Almanac.{title_at, prn_at, health_at, eccentricity_at, time_at, inclination_at, rate_at, sqrt_a_at, angle_at, clock_at, toa_at, record_at}
 use Rattle.yuma_text.proofs.LineFacts.{SaysLine}
 use Rattle.almanac_fields.proofs.Differing.{fresh_passes}
@@ -164,7 +164,7 @@ module _ (first end : ℕ) where
   in_radians r d h = ap (λ (x : Result Dec TextWhy). x >>= (λ y. Ok (Rad y))) h
 
   -- the facts behind one more line of the record
-  pub one_more : (said : RecordsSaid) (k : LineKind) (line : Text) (e : RecordEntry) (ls : List Text) → SaysLine first end said k line e
+  pub one_more : (said : Said) (k : LineKind) (line : Text) (e : Entry) (ls : List Text) → SaysLine first end said k line e
       → Facts (kinds_before k) ls said.current said.time
       → Facts (kinds_before k ++ k ∷ []) (ls ++ line ∷ []) (current_after said.current e) (time_after said.time e)
   one_more said kind.Title line e ls s f = rw s.2 (push_fact kind.Title line said.current said.time (s.0, s.1) (kinds_before kind.Title) ls f)

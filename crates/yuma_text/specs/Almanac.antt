@@ -16,7 +16,7 @@ use Rattle.text_lines.specs.Fields.{◌>>=◌, unless, labelled, whole_value_in}
 use Rattle.yuma_text.specs.declared.line_kind.LineKind.{LineKind}
 use Rattle.yuma_text.specs.declared.line_kind.LineKind.TheVariants as kind
 use Rattle.yuma_text.specs.LineKinds.{label_of}
-use Rattle.yuma_text.specs.Records.{zero, decimal_value, time_value, angle_of, clock_value, week_value}
+use Rattle.yuma_text.specs.Yuma.{zero, decimal_value, time_value, angle_of, clock_value, week_value}
 
 abbrev pub begins_with_star : List Text → Bool
 begins_with_star [] = false

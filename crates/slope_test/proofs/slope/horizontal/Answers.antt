@@ -1,4 +1,4 @@
-use Rattle.std.proofs.Common.{arith, ap, ap₂, ◌∙◌, ◌^◌}
+use Rattle.std.proofs.Common.{arith, ap, ap₂, ◌∙◌}
 use Rattle.std.proofs.lemmas.Int.{ints}
 use Rattle.fix_interval.specs.Products.{narrow76_of}
 use Rattle.fix_interval.specs.Sums.{add_of}

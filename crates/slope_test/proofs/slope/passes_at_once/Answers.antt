@@ -1,4 +1,4 @@
-use Rattle.std.proofs.Common.{rules, ◌≡◌, arith, ℤ, pos, ◌*ℤ◌, ◌≤ℤ◌, true}
+use Rattle.std.proofs.Common.{rules, ◌≡◌, arith, ℤ, ◌*ℤ◌, ◌≤ℤ◌, true}
 use mir.Val.{SFits}
 use mir.Syntax.{w64, w128}
 use lib.Signed.{le_z}

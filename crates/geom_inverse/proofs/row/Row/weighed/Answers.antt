@@ -1,4 +1,4 @@
-use Rattle.std.proofs.Common.{arith, ap, sym, subst, ◌∙◌, ◌+◌, ◌^◌, List, slice_index_or, refl}
+use Rattle.std.proofs.Common.{arith, ap, sym, subst, ◌∙◌, ◌+◌, ◌^◌, List, slice_index_or}
 use Rattle.raim_model.specs.Geometry.{row_of, weighed}
 use Rattle.fix_interval.specs.declared.interval.Iv.{Iv}
 use Rattle.fix_interval.specs.Ends.{Ends, IsInside}

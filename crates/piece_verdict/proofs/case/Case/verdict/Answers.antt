@@ -1,46 +1,84 @@
-use Rattle.std.proofs.Common.{◌≤◌, sym, subst, ap, ◌∙◌, length}
+use Rattle.std.proofs.Common.{◌≤◌, ◌-◌, sym, subst, ap, ◌∙◌, length, List}
 use Rattle.std.proofs.lemmas.Int.{to_z-of_z}
 use Rattle.std.proofs.lemmas.List.{length-map}
 use Rattle.raim_model.specs.PointVerdict.{least_count}
 use Rattle.raim_model.specs.Solution.{Case}
 use Rattle.slope_laws.specs.declared.shift.Shift.TheVariants.{Horizontal}
 use Rattle.slope_laws.specs.ShiftSlopes.{slopes_for}
+use Rattle.geom_inverse.specs.declared.row.Row.{Row}
+use Rattle.slope_test.specs.Marks.{SlopesPass, ListsPass}
 use Rattle.slope_test.specs.Named.{named, named_row}
-use Rattle.verdict_laws.specs.PieceVerdict.{test_by}
+use Rattle.verdict_laws.specs.PieceVerdict.{kappa_over, test_by}
 use Rattle.case_laws.specs.PieceVerdict.{seen_of}
 use Rattle.piece_verdict.specs.Looks.{AreLooks}
+use Rattle.piece_verdict.specs.Seen.{looks_with}
+use Rattle.piece_verdict.proofs.KnownLemmas.{slopes_kept, lists_kept, slopes_known, lists_known}
 use Rattle.piece_verdict.proofs.Whole.{is_few, is_masked, is_tested, enough_rows}
 use Rattle.piece_verdict.proofs.case.Case.verdict.Goals as goal
 
-pub returns-in-Few : goal.returns-in-Few
-returns-in-Few c =
+pub returns-in-Few-clause-value : goal.returns-in-Few-clause-value
+returns-in-Few-clause-value c =
     let f = c.ranges.first in
     let l = c.ranges.last in
-    let h = subst (λ r. AreLooks (least_count c.args.self.now.limits.exclude) (seen_of c.args.self.now c.args.first c.args.last) r) c.in-Few.is (simp to_z-of_z at c.looked.ensures) in
+    let h = subst (λ r. AreLooks (least_count c.args.self.now.limits.exclude) (seen_of c.args.self.now c.args.first c.args.last) (looks_with r c.looked.new.seen)) c.in-Few.is (simp to_z-of_z at c.looked.ensures.looks) in
     is_few c.args.self.now c.args.first c.args.last h
 
-pub returns-in-Straddle : goal.returns-in-Straddle
-returns-in-Straddle c =
+pub returns-in-Straddle-clause-value : goal.returns-in-Straddle-clause-value
+returns-in-Straddle-clause-value c =
     let f = c.ranges.first in
     let l = c.ranges.last in
-    let h = subst (λ r. AreLooks (least_count c.args.self.now.limits.exclude) (seen_of c.args.self.now c.args.first c.args.last) r) c.in-Straddle.is (simp to_z-of_z at c.looked.ensures) in
+    let h = subst (λ r. AreLooks (least_count c.args.self.now.limits.exclude) (seen_of c.args.self.now c.args.first c.args.last) (looks_with r c.looked.new.seen)) c.in-Straddle.is (simp to_z-of_z at c.looked.ensures.looks) in
     is_masked c.args.self.now c.args.first c.args.last c.in-Straddle.prn h.0 h.1
 
 pub test-requires-clause-enough : goal.test-requires-clause-enough
 test-requires-clause-enough c =
     let f = c.ranges.first in
     let l = c.ranges.last in
-    let h = subst (λ r. AreLooks (least_count c.args.self.now.limits.exclude) (seen_of c.args.self.now c.args.first c.args.last) r) c.in-Rows.is (simp to_z-of_z at c.looked.ensures) in
-    let e : least_count c.args.self.now.limits.exclude ≤ length (named c.in-Rows.rows.items) = enough_rows (seen_of c.args.self.now c.args.first c.args.last) (named c.in-Rows.rows.items) (least_count c.args.self.now.limits.exclude) h.0 h.1 h.2 in
-    let n : least_count c.args.self.now.limits.exclude ≤ length c.in-Rows.rows.items = subst (λ m. least_count c.args.self.now.limits.exclude ≤ m) (length-map c.in-Rows.rows.items named_row) e in
+    let h = subst (λ r. AreLooks (least_count c.args.self.now.limits.exclude) (seen_of c.args.self.now c.args.first c.args.last) (looks_with r c.looked.new.seen)) c.in-Rows.is (simp to_z-of_z at c.looked.ensures.looks) in
+    let e : least_count c.args.self.now.limits.exclude ≤ length (named c.looked.new.seen.rows.items) = enough_rows (seen_of c.args.self.now c.args.first c.args.last) (named c.looked.new.seen.rows.items) (least_count c.args.self.now.limits.exclude) h.0 h.1 h.2 in
+    let n : least_count c.args.self.now.limits.exclude ≤ length c.looked.new.seen.rows.items = subst (λ m. least_count c.args.self.now.limits.exclude ≤ m) (length-map c.looked.new.seen.rows.items named_row) e in
     subst (λ xs. least_count c.self.inside.limits.exclude ≤ length xs) (sym c.as_slice.ensures.value)
-    (subst (λ (x : Case). least_count x.limits.exclude ≤ length c.in-Rows.rows.items) (sym c.self.view_is) n)
+    (subst (λ (x : Case). least_count x.limits.exclude ≤ length c.looked.new.seen.rows.items) (sym c.self.view_is) n)
 
-pub returns-in-Rows : goal.returns-in-Rows
-returns-in-Rows c =
+pub returns-in-Rows-clause-value : goal.returns-in-Rows-clause-value
+returns-in-Rows-clause-value c =
     let f = c.ranges.first in
     let l = c.ranges.last in
-    let h = subst (λ r. AreLooks (least_count c.args.self.now.limits.exclude) (seen_of c.args.self.now c.args.first c.args.last) r) c.in-Rows.is (simp to_z-of_z at c.looked.ensures) in
+    let h = subst (λ r. AreLooks (least_count c.args.self.now.limits.exclude) (seen_of c.args.self.now c.args.first c.args.last) (looks_with r c.looked.new.seen)) c.in-Rows.is (simp to_z-of_z at c.looked.ensures.looks) in
     c.given.ensures
-    ∙ is_tested c.args.self.now c.args.first c.args.last (named c.in-Rows.rows.items) c.test.result h.0 h.1 h.2
-    (c.test.ensures ∙ ap (λ (x : Case). test_by (slopes_for Horizontal) x.limits x.limits.alert_mm (named c.as_slice.result.now)) c.self.view_is ∙ ap (λ rs. test_by (slopes_for Horizontal) c.args.self.now.limits c.args.self.now.limits.alert_mm (named rs)) c.as_slice.ensures.value)
+    ∙ is_tested c.args.self.now c.args.first c.args.last (named c.looked.new.seen.rows.items) c.test.result h.0 h.1 h.2
+    (c.test.ensures.value ∙ ap (λ (x : Case). test_by (slopes_for Horizontal) x.limits x.limits.alert_mm (named c.as_slice.result.now)) c.self.view_is ∙ ap (λ rs. test_by (slopes_for Horizontal) c.args.self.now.limits c.args.self.now.limits.alert_mm (named rs)) c.as_slice.ensures.value)
+
+-- the rows that are kept are those that are seen
+pub test-requires-clause-slopes : goal.test-requires-clause-slopes
+test-requires-clause-slopes c =
+    let f = c.ranges.first in
+    let l = c.ranges.last in
+    let h = subst (λ r. AreLooks (least_count c.args.self.now.limits.exclude) (seen_of c.args.self.now c.args.first c.args.last) (looks_with r c.looked.new.seen)) c.in-Rows.is (simp to_z-of_z at c.looked.ensures.looks) in
+    subst (λ (rs : List Row). SlopesPass Horizontal (named rs) (kappa_over c.self.inside.limits c.self.inside.limits.alert_mm (length rs)) c.args.known.now.slopes.places) (sym c.as_slice.ensures.value)
+    (subst (λ (x : Case). SlopesPass Horizontal (named c.looked.new.seen.rows.items) (kappa_over x.limits x.limits.alert_mm (length c.looked.new.seen.rows.items)) c.args.known.now.slopes.places) (sym c.self.view_is)
+    (slopes_kept c.args.self.now c.args.first c.args.last c.looked.new.seen.rows.items c.args.known.now.slopes.places h.2 c.requires.known.slopes))
+
+pub test-requires-clause-lists : goal.test-requires-clause-lists
+test-requires-clause-lists c =
+    let f = c.ranges.first in
+    let l = c.ranges.last in
+    let h = subst (λ r. AreLooks (least_count c.args.self.now.limits.exclude) (seen_of c.args.self.now c.args.first c.args.last) (looks_with r c.looked.new.seen)) c.in-Rows.is (simp to_z-of_z at c.looked.ensures.looks) in
+    subst (λ (rs : List Row). ListsPass Horizontal (named rs) (kappa_over c.self.inside.limits c.self.inside.limits.alert_mm (length rs - 1)) c.args.known.now.lists.places) (sym c.as_slice.ensures.value)
+    (subst (λ (x : Case). ListsPass Horizontal (named c.looked.new.seen.rows.items) (kappa_over x.limits x.limits.alert_mm (length c.looked.new.seen.rows.items - 1)) c.args.known.now.lists.places) (sym c.self.view_is)
+    (lists_kept c.args.self.now c.args.first c.args.last c.looked.new.seen.rows.items c.args.known.now.lists.places h.2 c.requires.known.lists))
+
+pub returns-in-Rows-clause-known : goal.returns-in-Rows-clause-known
+returns-in-Rows-clause-known c =
+    let f = c.ranges.first in
+    let l = c.ranges.last in
+    let h = subst (λ r. AreLooks (least_count c.args.self.now.limits.exclude) (seen_of c.args.self.now c.args.first c.args.last) (looks_with r c.looked.new.seen)) c.in-Rows.is (simp to_z-of_z at c.looked.ensures.looks) in
+    record {
+      hidden = simp to_z-of_z at c.looked.ensures.known;
+      slopes = slopes_known c.args.self.now c.args.first c.args.last c.looked.new.seen.rows.items c.test.new.slopes.places h.1 h.2
+          (subst (λ (x : Case). SlopesPass Horizontal (named c.looked.new.seen.rows.items) (kappa_over x.limits x.limits.alert_mm (length c.looked.new.seen.rows.items)) c.test.new.slopes.places) c.self.view_is
+          (subst (λ (rs : List Row). SlopesPass Horizontal (named rs) (kappa_over c.self.inside.limits c.self.inside.limits.alert_mm (length rs)) c.test.new.slopes.places) c.as_slice.ensures.value c.test.ensures.slopes));
+      lists = lists_known c.args.self.now c.args.first c.args.last c.looked.new.seen.rows.items c.test.new.lists.places h.1 h.2
+          (subst (λ (x : Case). ListsPass Horizontal (named c.looked.new.seen.rows.items) (kappa_over x.limits x.limits.alert_mm (length c.looked.new.seen.rows.items - 1)) c.test.new.lists.places) c.self.view_is
+          (subst (λ (rs : List Row). ListsPass Horizontal (named rs) (kappa_over c.self.inside.limits c.self.inside.limits.alert_mm (length rs - 1)) c.test.new.lists.places) c.as_slice.ensures.value c.test.ensures.lists));
+    }

@@ -9,7 +9,7 @@ pub returns-clause-right : goal.returns-clause-right
 returns-clause-right g c v t e certain low high =
     let f = c.ranges.first in
     let l = c.ranges.last in
-    let w : c.verdict.result ≡ piece_verdict_of c.args.self.now c.args.first c.args.last = simp to_z-of_z at c.verdict.ensures in
+    let w : c.verdict.result ≡ piece_verdict_of c.args.self.now c.args.first c.args.last = simp to_z-of_z at c.verdict.ensures.value in
     let a : Answers c.args.first c.args.last c.verdict.result c.answer.result = simp to_z-of_z at c.answer.ensures in
     judged_right c.args.self.now c.args.first c.args.last c.requires.rule c.answer.result (subst (λ x. Answers c.args.first c.args.last x c.answer.result) w a) v t e certain low high
 
@@ -20,6 +20,12 @@ pub returns-clause-near : goal.returns-clause-near
 returns-clause-near g c prn e =
     let f = c.ranges.first in
     let l = c.ranges.last in
-    let w : c.verdict.result ≡ piece_verdict_of c.args.self.now c.args.first c.args.last = simp to_z-of_z at c.verdict.ensures in
+    let w : c.verdict.result ≡ piece_verdict_of c.args.self.now c.args.first c.args.last = simp to_z-of_z at c.verdict.ensures.value in
     let a : Answers c.args.first c.args.last c.verdict.result c.answer.result = simp to_z-of_z at c.answer.ensures in
     judged_near c.args.self.now c.args.first c.args.last c.requires.rule c.answer.result (subst (λ x. Answers c.args.first c.args.last x c.answer.result) w a) prn e
+
+pub verdict-requires-clause-known : goal.verdict-requires-clause-known
+verdict-requires-clause-known g c =
+    let f = c.ranges.first in
+    let l = c.ranges.last in
+    simp to_z-of_z (c.nothing-known.ensures c.args.self.now c.args.first c.args.last)

@@ -1,0 +1,4 @@
+pub mod FourValues
+pub mod NumberReads
+pub mod PlainWords
+pub mod Matched

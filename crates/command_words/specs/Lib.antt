@@ -1,0 +1,5 @@
+pub mod Commands
+pub mod Asked
+pub mod Parsed
+pub mod Plain
+pub mod Vertical

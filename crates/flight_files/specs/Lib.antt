@@ -1,0 +1,6 @@
+pub mod Order
+pub mod Paths
+pub mod Files
+pub mod Stops
+pub mod Calls
+pub mod Settled

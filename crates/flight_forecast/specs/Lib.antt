@@ -1,0 +1,5 @@
+pub mod NoForecasts
+pub mod Alerts
+pub mod InOrder
+pub mod Steps
+pub mod Words

@@ -1,0 +1,17 @@
+//! The flight's forecast: from what accepted files give to the runs of the flight's verdicts.
+#![tactic(auto)]
+
+mod against;
+mod alert;
+mod flight;
+mod laws;
+mod splits;
+mod stops;
+#[cfg(test)]
+mod tests;
+
+pub use against::forecast_against;
+pub use alert::Alert;
+pub use flight::{forecast, forecast_up};
+pub use laws::{a_flight_has_an_answer, runs_cover_a_span_in_order};
+pub use stops::NoForecast;

@@ -1,0 +1,5 @@
+use Rattle.judged_pieces.proofs.agreement.judged.Given as goal
+
+-- the ledger is the one that the blank names
+abbrev pub ghosts-judged_counted : goal.ghosts-judged_counted
+ghosts-judged_counted a = record { name = a.blank.name; parts = a.blank.parts }

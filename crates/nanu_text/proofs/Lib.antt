@@ -1,0 +1,5 @@
+pub mod NanuLemmas
+pub mod DigitLemmas
+pub mod StopLemmas
+pub mod CountLemmas
+pub mod RunLemmas

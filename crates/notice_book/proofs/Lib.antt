@@ -1,0 +1,7 @@
+pub mod KeptLemmas
+pub mod OutageLemmas
+pub mod LiveLemmas
+pub mod CauseLemmas
+pub mod GrowthLemmas
+pub mod OneAnswer
+pub mod AskedLemmas

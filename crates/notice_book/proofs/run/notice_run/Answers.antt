@@ -1,0 +1,16 @@
+use Rattle.std.proofs.Common.{◌≡◌, ◌∙◌, subst}
+use Rattle.raim_base.specs.Causes.{GrowsByFront}
+use Rattle.text_lines.specs.Lines.{Text}
+use Rattle.notice_book.specs.Notes.{note_of}
+use Rattle.notice_book.proofs.CauseLemmas.{asked_completed}
+use Rattle.notice_book.proofs.GrowthLemmas.{grows}
+use Rattle.notice_book.proofs.run.notice_run.Goals as goal
+
+pub returns-clause-note : goal.returns-clause-note
+returns-clause-note g c =
+    let text : c.as_bytes.result.now ≡ note_of c.answer-status.result = c.as_bytes.ensures.value ∙ c.as_str.ensures.value ∙ c.note_line.ensures in
+    subst (λ (t : Text). GrowsByFront (g.K.Sink.contents c.args.note.now) (g.K.Sink.contents c.write_all_counted.new.out) t) text
+    (grows _ _ c.as_bytes.result.now c.write_all_counted.result c.write_all_counted.ensures.ok c.write_all_counted.ensures.err)
+
+pub returns-clause-complete : goal.returns-clause-complete
+returns-clause-complete g c = asked_completed _ _ _ _ _ _ _ _ _ c.answer-status.result _ c.answer-status.ensures.cause

@@ -1,0 +1,15 @@
+pub mod Tables
+pub mod KeepCauses
+pub mod KeepFaults
+pub mod Gains
+pub mod Answers
+pub mod Changes
+pub mod Outages
+pub mod MemKeeperState
+pub mod Statuses
+pub mod Commands
+pub mod Asking
+pub mod Notes
+pub mod RunCauses
+pub mod Stops
+pub mod Laws

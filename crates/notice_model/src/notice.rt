@@ -1,0 +1,34 @@
+// Plain data of notices.
+
+/// A notice about the outage of a satellite. Times are milliseconds of UTC since the GPS epoch.
+#[derive(Clone, Copy, Debug, PartialEq, Eq)]
+pub enum Notice {
+    /// An outage is announced.
+    Add {
+        number: u32,
+        prn: u8,
+        start: i64,
+        end: Option<i64>,
+    },
+    /// The outage that `target` announced has other times.
+    Reschedule {
+        number: u32,
+        target: u32,
+        start: i64,
+        end: Option<i64>,
+    },
+    /// The outage that `target` announced does not take place.
+    Cancel {
+        number: u32,
+        target: u32,
+    },
+}
+
+/// An announced outage in effect: the number and the PRN of its `Add`, and the times that hold now.
+#[derive(Clone, Copy, Debug, PartialEq, Eq)]
+pub struct Live {
+    pub number: u32,
+    pub prn: u8,
+    pub start: i64,
+    pub end: Option<i64>,
+}

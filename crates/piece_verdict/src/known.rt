@@ -1,0 +1,31 @@
+// What is known of a piece of time.
+ghost use Rattle.std.specs.Prelude.{ℤ};
+ghost use Rattle.raim_model.specs.Solution.{Case};
+ghost use Rattle.piece_verdict.specs.Known.{Knows};
+
+use crate::hidden::Hidden;
+use slope_test::Marks;
+
+/// What is known of a piece of time, by which a piece inside is judged sooner.
+#[derive(Clone, Copy)]
+pub struct Known {
+    /// The satellites that are hidden.
+    pub(crate) hidden: Hidden,
+    /// The rows whose slopes pass.
+    pub(crate) slopes: Marks,
+    /// The rows without which the others pass.
+    pub(crate) lists: Marks,
+}
+
+impl Known {
+    /// Nothing.
+    pub(crate) fn nothing() -> Known
+        ensures { (c : Case) (first last : ℤ) → Knows c result first last }
+    {
+        Known {
+            hidden: Hidden::none(),
+            slopes: Marks::none(),
+            lists: Marks::none(),
+        }
+    }
+}

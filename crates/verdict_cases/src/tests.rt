@@ -1,0 +1,7 @@
+// Small flights, judged.
+
+mod changes;
+mod flights;
+mod looks;
+mod runs;
+mod vertical;
