@@ -12,6 +12,7 @@ use Rattle.site_laws.specs.Frames.{FrameEnds}
 use Rattle.site_laws.specs.Sights.{SightEnds, visible, hidden, straddle, look_of}
 use Rattle.verdict_laws.specs.Sights.{Sight, Hidden}
 use Rattle.case_laws.specs.SightOver.{mask_of, sight_given, sight_over, weight_over}
+use Rattle.slope_test.proofs.MarkLemmas.{same_or_not, none_marked}
 use Rattle.piece_verdict.specs.Hidden.{AreHidden, KnowsHidden}
 use Rattle.piece_verdict.specs.Views.{seen_from}
 
@@ -28,12 +29,6 @@ pub hidden_look : (recs : List AlmRecord) (weights : List Weight) (frame : Frame
     → look_of frame (position_of rec first last) mask ≡ hidden
 hidden_look recs weights frame mask first last places i rec h lt e t =
     hidden_given (weight_over weights rec.prn) (look_of frame (position_of rec first last) mask) (ap (seen_from frame mask weights first last) e ∙ h i rec lt t)
-
-same_or_not : (m n : ℕ) → (m ≡ n) ⊎ (m ≢ n)
-same_or_not zero zero = inl refl
-same_or_not zero (suc n) = inr (omega arith)
-same_or_not (suc m) zero = inr (omega arith)
-same_or_not (suc m) (suc n) = elim (same_or_not m n) [ inl e ↦ inl (ap suc e) | inr d ↦ inr (omega arith) ]
 
 -- one more that is known
 pub hidden_more : (recs : List AlmRecord) (weights : List Weight) (frame : FrameEnds) (mask : Ends) (first last : ℤ) (old new : List Bool) (i : ℕ) (rec : AlmRecord)
@@ -70,12 +65,5 @@ known_over c first last frame mask recs places r m e h =
     λ k d lt t. sym (e (slice_index_or (in_force first c.almanacs) k d)) ∙ b k d lt t
 
 -- ---- of none
--- so many places, none of them marked
-abbrev pub unmarked_places : ℕ → List Bool
-unmarked_places zero = []
-unmarked_places (suc n) = false ∷ unmarked_places n
-
-pub unmarked : (n k : ℕ) → slice_index_or (unmarked_places n) k false ≡ false
-unmarked zero k = refl
-unmarked (suc n) zero = refl
-unmarked (suc n) (suc k) = unmarked n k
+pub none_hidden : (sight : AlmRecord → Sight) (recs : List AlmRecord) (places : List Bool) → ((k : ℕ) → slice_index_or places k false ≡ false) → AreHidden sight recs places
+none_hidden sight recs places h k rec lt t = absurd (none_marked places h k t)

@@ -3,14 +3,13 @@ ghost use Rattle.std.specs.Prelude.{ℤ};
 ghost use Rattle.raim_model.specs.Solution.{Case};
 ghost use Rattle.piece_verdict.specs.Known.{Knows};
 
-use crate::hidden::Hidden;
 use slope_test::Marks;
 
 /// What is known of a piece of time, by which a piece inside is judged sooner.
 #[derive(Clone, Copy)]
 pub struct Known {
-    /// The satellites that are hidden.
-    pub(crate) hidden: Hidden,
+    /// The places in the almanac in force of satellites that are hidden.
+    pub(crate) hidden: Marks,
     /// The rows whose slopes pass.
     pub(crate) slopes: Marks,
     /// The rows without which the others pass.
@@ -23,7 +22,7 @@ impl Known {
         ensures { (c : Case) (first last : ℤ) → Knows c result first last }
     {
         Known {
-            hidden: Hidden::none(),
+            hidden: Marks::none(),
             slopes: Marks::none(),
             lists: Marks::none(),
         }

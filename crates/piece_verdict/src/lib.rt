@@ -6,7 +6,6 @@ mod constellation;
 mod cuts;
 mod factor;
 mod found;
-mod hidden;
 mod judge;
 mod known;
 mod legs;

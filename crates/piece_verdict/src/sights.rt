@@ -14,13 +14,13 @@ ghost use Rattle.piece_verdict.specs.Seen.{looks_with, IsSeen};
 ghost use Rattle.piece_verdict.specs.Views.{seen_from, all_seen_from};
 
 use crate::found::Found;
-use crate::hidden::Hidden;
 use crate::satellite::Satellite;
 use crate::seen::Seen;
 use crate::weight::weight;
 use elev_mask::{Sight, look};
 use fix_interval::Iv;
 use raim_model::{Outage, Weight};
+use slope_test::Marks;
 use wgs_position::SiteFrame;
 
 /// How one satellite is seen.
@@ -39,7 +39,7 @@ fn sight(satellite: &Satellite, frame: &SiteFrame, mask: Iv, first: i64, last: i
 
 /// How the satellite at a place of its almanac is seen, where it may be known to be hidden; if it is, that is known then.
 fn sight_told(
-    known: &mut Hidden,
+    known: &mut Marks,
     place: usize,
     satellite: &Satellite,
     frame: &SiteFrame,
@@ -78,7 +78,7 @@ pub(crate) fn sights(
     frame: &SiteFrame,
     mask: Iv,
     needed: usize,
-    known: &mut Hidden,
+    known: &mut Marks,
     seen: &mut Seen,
     first: i64,
     last: i64,

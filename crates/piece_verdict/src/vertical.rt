@@ -14,10 +14,10 @@ ghost use Rattle.piece_verdict.specs.Looks.{AreLooks, LeavesLooks, prns_of};
 
 use crate::case::Case;
 use crate::factor::kappa;
-use crate::hidden::Hidden;
 use crate::looks::Looks;
 use crate::seen::Seen;
 use fix_interval::Iv;
+use slope_test::Marks;
 use std::sync::ledger::Ledger;
 use step_counter::Steps;
 
@@ -42,7 +42,7 @@ impl Case {
             → AreLooks (least_count self.now.limits.exclude) (seen_of self.now a b) inside → LeavesLooks result inside }
     {
         steps.tick();
-        let mut known = Hidden::none();
+        let mut known = Marks::none();
         let mut seen = Seen::new();
         let found = self.looked(first, last, &mut known, &mut seen);
         seen.looks(found)

@@ -14,13 +14,13 @@ ghost use Rattle.piece_verdict.specs.Views.{seen_from};
 
 use crate::case::Case;
 use crate::found::Found;
-use crate::hidden::Hidden;
 use crate::legs::leg;
 use crate::seen::Seen;
 use crate::sights::sights;
 use crate::slopes::needed;
 use almanac_choice::in_force_at;
 use leg_place::place_over;
+use slope_test::Marks;
 use wgs_position::{SiteFrame, frame};
 
 impl Case {
@@ -37,7 +37,7 @@ impl Case {
 
     /// What the test makes of the satellites that are usable, where some are known to be hidden; those that are found to be
     /// hidden are known then. The rows are kept in `seen`.
-    pub(crate) fn looked(&self, first: i64, last: i64, known: &mut Hidden, seen: &mut Seen) -> Found
+    pub(crate) fn looked(&self, first: i64, last: i64, known: &mut Marks, seen: &mut Seen) -> Found
         requires ordered { first ≤ℤ last }
         requires rule { MayBeJudged self.now first last }
         requires known { KnowsHidden self.now known.old.places first last }

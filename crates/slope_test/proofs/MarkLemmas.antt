@@ -79,6 +79,10 @@ unmarked zero k = refl
 unmarked (suc n) zero = refl
 unmarked (suc n) (suc k) = unmarked n k
 
+-- none is marked where each has no mark
+pub none_marked : (marks : List Bool) → ((k : ℕ) → slice_index_or marks k false ≡ false) → (i : ℕ) → slice_index_or marks i false ≡ true → ⊥
+none_marked marks h i t = let e : true ≡ false = sym t ∙ h i in cc
+
 -- ---- on rows inside
 -- rows inside without the same one
 pub without_inside : (i : ℕ) (rows wide : List NamedRow) → NamedRowsInside rows wide → NamedRowsInside (without i rows) (without i wide)

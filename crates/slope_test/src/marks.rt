@@ -1,7 +1,7 @@
 // Places that are marked.
 ghost use Rattle.std.specs.Prelude.{◌≡◌, ◌≢◌, ℕ, ◌<◌, slice_index_or, false};
 
-/// Places of a list of at most 32 rows, of which something is known.
+/// Places of a list of at most 32, of which something is known.
 #[derive(Clone, Copy)]
 pub struct Marks {
     pub places: [bool; 32],

@@ -6,6 +6,7 @@ use Rattle.raim_model.specs.PointVerdict.{least_count}
 use Rattle.case_laws.specs.PieceVerdict.{seen_of}
 use Rattle.slope_test.specs.Named.{named}
 use Rattle.piece_verdict.specs.Looks.{AreLooks}
+use Rattle.piece_verdict.proofs.HiddenLemmas.{none_hidden}
 use Rattle.piece_verdict.proofs.LooksLemmas.{few_rows, rows_lie, prns_are, looks_leave}
 use Rattle.piece_verdict.proofs.case.Case.looks.Goals as goal
 
@@ -46,4 +47,4 @@ pub looked-found-requires-clause-known : goal.looked-found-requires-clause-known
 looked-found-requires-clause-known g c =
     let f = c.ranges.first in
     let l = c.ranges.last in
-    simp to_z-of_z (c.none-known.ensures (λ rec. sight_over c.args.self.now rec c.args.first c.args.last) (in_force c.args.first c.args.self.now.almanacs))
+    simp to_z-of_z (none_hidden (λ rec. sight_over c.args.self.now rec c.args.first c.args.last) (in_force c.args.first c.args.self.now.almanacs) _ c.none-known.ensures)
