@@ -2,6 +2,5 @@ pub mod KeptLemmas
 pub mod OutageLemmas
 pub mod LiveLemmas
 pub mod CauseLemmas
-pub mod GrowthLemmas
 pub mod OneAnswer
 pub mod AskedLemmas

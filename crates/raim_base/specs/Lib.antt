@@ -11,3 +11,4 @@ pub mod SureDeskState
 pub mod MemSinkState
 pub mod Opened
 pub mod Streams
+pub mod CauseWords

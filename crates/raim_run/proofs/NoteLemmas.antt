@@ -1,9 +1,7 @@
 -- What is noted, and the calls of a run that asks for nothing.
-use Rattle.std.proofs.Common.{ℕ, List, [], Option, Some, None, Result, Ok, Err, OnOk, OnErr, refl, sym, ap, subst, inl, inr, append-nil}
-use Rattle.std.specs.Io.KnownBytes.{Appends}
+use Rattle.std.proofs.Common.{ℕ, List, [], Option, Some, None, refl, sym, ap, subst, inl, inr, append-nil}
 use Rattle.raim_model.specs.declared.FileNo.TheVariants.{Limits}
 use Rattle.raim_base.specs.Calls.{Call, Makes}
-use Rattle.raim_base.specs.Causes.{GrowsByFront}
 use Rattle.text_lines.specs.Lines.{Text}
 use Rattle.command_words.specs.declared.Program.{Program}
 use Rattle.command_words.specs.Asked.{Asked}
@@ -32,18 +30,6 @@ note_is program (Some asked) holds leap WriteFault note has under = under
 note_is program (Some asked) holds leap (Overflow at prn) note has under = (has.case, has.accepted, subst (λ (l : ℕ). IsOverflowNote l at prn note) has.leap_is under)
 note_is program (Some asked) holds leap TooManyRuns note has under = under
 note_is program (Some asked) holds leap Memory note has under = under
-
--- a text that was written grows what held it by a front of it, whether the writing failed or not
-pub grows : {E : Type 0} (old new : Option Text) (text : Text) (result : Result (Unit {0}) E)
-    → OnOk result (Appends old new text) → OnErr result (GrowsByFront old new text) → GrowsByFront old new text
-grows old new text (Ok x) whole front = (text, [], sym (append-nil text), whole)
-grows old new text (Err e) whole front = front
-
--- and by all of it where it did not fail
-pub grows_whole : {E : Type 0} (old new : Option Text) (text : Text) (result : Result (Unit {0}) E) (Rose : Type 0)
-    → OnOk result (Appends old new text) → OnErr result Rose → (Rose → ⊥) → Appends old new text
-grows_whole old new text (Ok x) Rose whole failed quiet = whole
-grows_whole old new text (Err e) Rose whole failed quiet = absurd (quiet failed)
 
 -- where there is no memory for the words there is no call
 makes_none : (calls : Option (List Call)) → Makes calls calls []

@@ -1,13 +1,12 @@
 -- The line that each status but Done writes to the note.
-use Rattle.std.specs.Prelude.{◌≡◌, ℕ, ℤ, [], ◌∷◌, ◌++◌, codes, decimal}
+use Rattle.std.specs.Prelude.{◌≡◌, ℕ, ℤ, [], ◌∷◌, ◌++◌, codes}
 use Rattle.std.specs.declared.option.Option.{Option}
 use Rattle.std.specs.declared.option.Option.TheVariants.{Some, None}
 use Rattle.std.specs.Io.KnownBytes.{Appends}
 use Rattle.raim_model.specs.declared.FileNo.{FileNo}
-use Rattle.raim_model.specs.declared.FileNo.TheVariants as file
 use Rattle.raim_model.specs.declared.TextWhy.{TextWhy}
-use Rattle.raim_model.specs.declared.TextWhy.TheVariants as why
 use Rattle.raim_model.specs.Solution.{Case}
+use Rattle.raim_base.specs.CauseWords.{file_name, refusal_line}
 use Rattle.raim_base.specs.Causes.{GrowsByFront}
 use Rattle.text_lines.specs.Lines.{Text}
 use Rattle.gps_week.specs.GpsTime.{SpellsInstant}
@@ -19,39 +18,8 @@ use Rattle.raim_run.specs.declared.status.Status.{Status}
 use Rattle.raim_run.specs.declared.status.Status.TheVariants.{Done, Usage, Refused, ReadFault, WriteFault, Overflow, TooManyRuns, Memory}
 use Rattle.raim_run.specs.Cases.{IsCaseOf}
 
-abbrev pub file_name : FileNo → Text
-file_name file.Limits = codes "limits"
-file_name file.Almanac = codes "almanac"
-file_name file.Outages = codes "outages"
-file_name file.Route = codes "route"
-
-abbrev pub why_name : TextWhy → Text
-why_name why.Label = codes "Label"
-why_name why.Word = codes "Word"
-why_name why.Number = codes "Number"
-why_name why.Time = codes "Time"
-why_name why.Range = codes "Range"
-why_name why.Twice = codes "Twice"
-why_name why.PrnTwice = codes "PrnTwice"
-why_name why.Missing = codes "Missing"
-why_name why.BiasGap = codes "BiasGap"
-why_name why.EmptySpan = codes "EmptySpan"
-why_name why.NotRising = codes "NotRising"
-why_name why.TooFew = codes "TooFew"
-why_name why.TooMany = codes "TooMany"
-why_name why.TooLong = codes "TooLong"
-why_name why.Short = codes "Short"
-why_name why.FileTooLong = codes "FileTooLong"
-why_name (why.CountDiffers said found) = codes "CountDiffers"
-
--- the cause's name, and its numbers where it has some
-abbrev pub why_text : TextWhy → Text
-why_text (why.CountDiffers said found) = codes "CountDiffers" ++ codes " " ++ decimal said ++ codes " " ++ decimal found
-why_text why = why_name why
-
 abbrev pub refusal_text : FileNo → ℕ → TextWhy → Text
-refusal_text file line why =
-    codes "raim: " ++ file_name file ++ codes " line " ++ decimal line ++ codes ": " ++ why_text why ++ 10 ∷ []
+refusal_text file line why = codes "raim: " ++ refusal_line file line why
 
 abbrev pub read_fault_text : FileNo → Text
 read_fault_text file = codes "raim: " ++ file_name file ++ codes ": read fault" ++ 10 ∷ []

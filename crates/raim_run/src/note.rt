@@ -3,7 +3,7 @@ ghost use Rattle.std.specs.Prelude.{◌≡◌, ◌≤◌, ◌+◌, ◌++◌, [],
 ghost use Rattle.arrayvec.specs.ArrayVec.{array_vec_len};
 ghost use Rattle.gps_week.specs.GpsTime.{IsInstant};
 ghost use Rattle.report_text.specs.Report.{prn_text};
-ghost use Rattle.raim_run.specs.Notes.{file_name, why_name, why_text, refusal_text, read_fault_text, usage_of, IsOverflowNote, IsNoteUnder};
+ghost use Rattle.raim_run.specs.Notes.{refusal_text, read_fault_text, usage_of, IsOverflowNote, IsNoteUnder};
 ghost use Rattle.raim_run.specs.Printed.{IsNotable};
 
 use crate::Status;
@@ -12,6 +12,7 @@ use arrayvec::ArrayVec;
 use command_words::Program;
 use gps_week::utc_text;
 use itoa::Buffer;
+use raim_base::{name_of_file, words_of_why};
 use raim_model::{FileNo, TextWhy};
 
 /// A note; the longest has 120 bytes or so.
@@ -27,43 +28,6 @@ fn push(note: &mut Note, text: &[u8])
     };
 }
 
-fn name_of_file(file: FileNo) -> &'static str
-    ensures name { result.now ≡ file_name file }
-    ensures short { length result.now ≤ 8 }
-{
-    match file {
-        FileNo::Limits => "limits",
-        FileNo::Almanac => "almanac",
-        FileNo::Outages => "outages",
-        FileNo::Route => "route",
-    }
-}
-
-fn name_of_why(why: TextWhy) -> &'static str
-    ensures name { result.now ≡ why_name why }
-    ensures short { length result.now ≤ 16 }
-{
-    match why {
-        TextWhy::Label => "Label",
-        TextWhy::Word => "Word",
-        TextWhy::Number => "Number",
-        TextWhy::Time => "Time",
-        TextWhy::Range => "Range",
-        TextWhy::Twice => "Twice",
-        TextWhy::PrnTwice => "PrnTwice",
-        TextWhy::Missing => "Missing",
-        TextWhy::BiasGap => "BiasGap",
-        TextWhy::EmptySpan => "EmptySpan",
-        TextWhy::NotRising => "NotRising",
-        TextWhy::TooFew => "TooFew",
-        TextWhy::TooMany => "TooMany",
-        TextWhy::TooLong => "TooLong",
-        TextWhy::Short => "Short",
-        TextWhy::FileTooLong => "FileTooLong",
-        TextWhy::CountDiffers { .. } => "CountDiffers",
-    }
-}
-
 fn push_number(note: &mut Note, number: u32)
     requires { array_vec_len note.old ≤ 200 }
     ensures items { note.new.items ≡ note.old.items ++ decimal number }
@@ -71,20 +35,6 @@ fn push_number(note: &mut Note, number: u32)
 {
     let mut buffer = Buffer::new();
     push(note, buffer.format(number).as_bytes());
-}
-
-fn push_why(note: &mut Note, why: TextWhy)
-    requires { array_vec_len note.old ≤ 100 }
-    ensures items { note.new.items ≡ note.old.items ++ why_text why }
-    ensures len { array_vec_len note.new ≤ array_vec_len note.old + 98 }
-{
-    push(note, name_of_why(why).as_bytes());
-    if let TextWhy::CountDiffers { said, found } = why {
-        push(note, b" ");
-        push_number(note, said);
-        push(note, b" ");
-        push_number(note, found);
-    }
 }
 
 fn push_prn(note: &mut Note, prn: u8)
@@ -121,7 +71,7 @@ fn refusal_note(file: FileNo, line: u32, why: TextWhy) -> Note
     push(&mut note, b" line ");
     push_number(&mut note, line);
     push(&mut note, b": ");
-    push_why(&mut note, why);
+    push(&mut note, words_of_why(why).as_str().as_bytes());
     push(&mut note, b"\n");
     note
 }

@@ -3,7 +3,7 @@ use Rattle.raim_base.specs.Causes.{GrowsByFront}
 use Rattle.text_lines.specs.Lines.{Text}
 use Rattle.notice_book.specs.Notes.{note_of}
 use Rattle.notice_book.proofs.CauseLemmas.{asked_completed}
-use Rattle.notice_book.proofs.GrowthLemmas.{grows}
+use Rattle.raim_base.proofs.GrowthLemmas.{grows}
 use Rattle.notice_book.proofs.run.notice_run.Goals as goal
 
 pub returns-clause-note : goal.returns-clause-note

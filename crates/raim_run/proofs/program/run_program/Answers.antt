@@ -7,7 +7,8 @@ use Rattle.text_lines.specs.Lines.{Text}
 use Rattle.command_words.specs.Asked.{Asked}
 use Rattle.command_words.specs.Vertical.{asked_for}
 use Rattle.raim_run.specs.Causes.{StatusCause, NothingAsked}
-use Rattle.raim_run.proofs.NoteLemmas.{note_is, grows, grows_whole}
+use Rattle.raim_base.proofs.GrowthLemmas.{grows, grows_whole}
+use Rattle.raim_run.proofs.NoteLemmas.{note_is}
 use Rattle.raim_run.proofs.Settling.{settled_by, completed_by}
 use Rattle.raim_run.proofs.program.run_program.Goals as goal
 

@@ -2,7 +2,7 @@ use Rattle.std.proofs.Common.{rules, ◌≡◌, ℕ, [], ◌∷◌, Some, None, 
 use Rattle.std.proofs.lemmas.Grind.{common_steps}
 use Rattle.raim_base.specs.Calls.{Makes, reading}
 use Rattle.raim_base.proofs.Calls.{reads_more, reads_last}
-use Rattle.raim_base.proofs.desk.read_whole.Goals as goal
+use Rattle.raim_base.proofs.desk.read_up_to.Goals as goal
 
 -- the read that fails is the last call
 pub returns-in_default-clause-calls : goal.returns-in_default-clause-calls

@@ -8,3 +8,9 @@ pub grows : {E : Type 0} (old new : Option (List ℕ)) (text : List ℕ) (result
     → OnOk result (Appends old new text) → OnErr result (GrowsByFront old new text) → GrowsByFront old new text
 grows old new text (Ok x) whole front = (text, [], sym (append-nil text), whole)
 grows old new text (Err e) whole front = front
+
+-- and by all of it where it did not fail
+pub grows_whole : {E : Type 0} (old new : Option (List ℕ)) (text : List ℕ) (result : Result (Unit {0}) E) (Rose : Type 0)
+    → OnOk result (Appends old new text) → OnErr result Rose → (Rose → ⊥) → Appends old new text
+grows_whole old new text (Ok x) Rose whole failed quiet = whole
+grows_whole old new text (Err e) Rose whole failed quiet = absurd (quiet failed)
