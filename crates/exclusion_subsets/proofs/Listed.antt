@@ -1,5 +1,5 @@
 -- What is known of lists that pass.
-use Rattle.std.specs.Prelude.{◌≡◌, ℕ, ◌<◌, Bool, true, false, List, length, slice_index_or}
+use Rattle.std.specs.Prelude.{◌≡◌, ℕ, Bool, false, List, slice_index_or}
 use Rattle.std.proofs.Common.{◌≢◌, ap, sym, inl, inr, ◌∙◌}
 use Rattle.fix_interval.specs.Ends.{Ends}
 use Rattle.geometry_laws.specs.Without.{without}

@@ -57,13 +57,6 @@ where
     let alloc = rt.alloc();
     let mut keeper = SqliteKeeper::adopt(alloc, opened(&rt, &words));
     let mut desk = FileDesk::new(rt);
-    let status = nanu_run(
-        alloc,
-        &words,
-        &mut keeper,
-        &mut desk,
-        &mut out,
-        &mut note,
-    );
+    let status = nanu_run(alloc, &words, &mut keeper, &mut desk, &mut out, &mut note);
     exit_code(status)
 }

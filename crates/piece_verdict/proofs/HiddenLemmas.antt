@@ -1,6 +1,6 @@
 -- What is known of the satellites that are hidden.
-use Rattle.std.specs.Prelude.{◌≡◌, ℕ, zero, suc, ◌<◌, ℤ, ◌⊎◌, Bool, true, false, List, [], ◌∷◌, length, slice_index_or, refl}
-use Rattle.std.proofs.Common.{◌≢◌, arith, ap, sym, subst, inl, inr, ◌∙◌}
+use Rattle.std.specs.Prelude.{◌≡◌, ℕ, ◌<◌, ℤ, Bool, true, false, List, length, slice_index_or, refl}
+use Rattle.std.proofs.Common.{◌≢◌, ap, sym, subst, inl, inr, ◌∙◌}
 use Rattle.std.proofs.lemmas.List.{get_or_default}
 use Rattle.raim_model.specs.declared.almanac.AlmRecord.{AlmRecord}
 use Rattle.raim_model.specs.declared.limits.Weight.{Weight}

@@ -1,5 +1,5 @@
 -- What is known of slopes and of lists, of the rows that are kept.
-use Rattle.std.specs.Prelude.{◌≡◌, ℕ, ◌-◌, ℤ, Bool, List, length, None}
+use Rattle.std.specs.Prelude.{◌≡◌, ◌-◌, ℤ, Bool, List, length, None}
 use Rattle.std.proofs.Common.{ap, sym, subst, ◌∙◌}
 use Rattle.std.proofs.lemmas.List.{length-map}
 use Rattle.raim_model.specs.Solution.{Case}

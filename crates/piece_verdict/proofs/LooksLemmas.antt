@@ -1,19 +1,18 @@
 -- What is seen over a piece holds for every solution, and stays on each piece inside.
 use Rattle.std.specs.Prelude.{◌≡◌, ℕ, ◌<◌, ◌≤◌, ℤ, ◌≤ℤ◌, if◌then◌else◌, List, [], ◌∷◌, map, length, Some, None, refl}
-use Rattle.std.specs.List.{AllByRecursion}
 use Rattle.std.proofs.Common.{arith, ap, sym, subst, ◌∙◌}
 use Rattle.std.proofs.lemmas.Int.{ints}
 use Rattle.raim_model.specs.declared.almanac.AlmRecord.{AlmRecord}
 use Rattle.raim_model.specs.CaseCuts.{InRootPiece}
-use Rattle.raim_model.specs.CaseRanges.{IsCase, IsListed}
+use Rattle.raim_model.specs.CaseRanges.{IsCase}
 use Rattle.raim_model.specs.Level.{Level}
-use Rattle.raim_model.specs.Receiver.{OnLeg, place_on, ReceiverSolution, Site, site}
+use Rattle.raim_model.specs.Receiver.{Site, site}
 use Rattle.raim_model.specs.Solution.{Case, Sighting, Sightings, Solution, is_seen, usable, rows_of}
 use Rattle.flight_laws.proofs.Usable.{usable_same, usable_recorded}
 use Rattle.slope_laws.specs.Rows.{NamedRow, NamedRowsLie, NamedRowsInside}
 use Rattle.slope_test.specs.Named.{named}
 use Rattle.verdict_laws.specs.Sights.{Sight, Visible, Hidden, Straddles, Sighted, sighted_over, count_possible, or_straddling, first_straddling, with_row, rows_seen}
-use Rattle.verdict_laws.specs.Hold.{Shows, HoldsSights}
+use Rattle.verdict_laws.specs.Hold.{Shows}
 use Rattle.verdict_laws.proofs.Seen.{AllLeave, count_left, SameSeen, same_seen}
 use Rattle.verdict_laws.proofs.Pieces.{all_leave, all_show}
 use Rattle.verdict_laws.proofs.Shown.{AllShow, RowsShown, rows_shown}

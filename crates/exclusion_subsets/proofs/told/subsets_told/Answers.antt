@@ -1,5 +1,5 @@
 use Rattle.std.proofs.Common.{◌≡◌, arith, refl, sym, ◌∙◌, length, ◌-◌}
-use Rattle.std.specs.Prelude.{true, false, slice_index_or}
+use Rattle.std.specs.Prelude.{true, false}
 use Rattle.std.proofs.lemmas.List.{length-set}
 use Rattle.fix_interval.specs.Intervals.{ends}
 use Rattle.slope_test.specs.Named.{is_pass}
