@@ -15,8 +15,8 @@ use Rattle.raim_run.specs.declared.Status.TheVariants as status
 use Rattle.raim_run.specs.Texts.{from_texts, held_in, IsPredicted, IsUnpredicted, Settle}
 use Rattle.raim_run.proofs.Clashes.{case_once}
 use Rattle.raim_run.proofs.PredictLemmas.{are_told, texts_settle}
-use Rattle.fleet_run.specs.Blocks.{HaveLeap, IsOutcomeOf, IsBodyOf, AreBodiesOf, IsFleetOf, with_route}
-use Rattle.fleet_run.specs.Laws.{HasOneBody, HasOneText, AreAlike, StandsAlone}
+use Rattle.fleet_run.specs.Blocks.{HaveLeap, IsOutcomeOf, IsBodyOf, AreBodiesOf, with_route}
+use Rattle.fleet_run.specs.Laws.{HasOneText, AreAlike, StandsAlone}
 
 -- an outcome and its body, as the answer of a prediction
 abbrev answer_of : Outcome → Text → Result Text Status
@@ -95,7 +95,7 @@ module _ (texts : Each Text) where
   pub one_body : (body other : Text) → IsBodyOf texts body → IsBodyOf texts other → body ≡ other
   one_body body other a b =
       let settle : Settle texts (λ t. t) (answer_of a.outcome body)
-          = texts_settle texts (λ t. t) (answer_of a.outcome body) (is_ok a.leap a.outcome body a.says a.written) (is_err a.leap a.outcome body a.says) (remembered a.outcome body) in
+      = texts_settle texts (λ t. t) (answer_of a.outcome body) (is_ok a.leap a.outcome body a.says a.written) (is_err a.leap a.outcome body a.says) (remembered a.outcome body) in
       same_body a.leap b.leap a.outcome b.outcome body other settle a.says a.written b.says b.written
 
 -- a fleet has one list of bodies

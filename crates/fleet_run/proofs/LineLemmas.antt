@@ -1,17 +1,16 @@
 -- The line in the place of a report.
-use Rattle.std.proofs.Common.{◌≡◌, ◌≢◌, ◌≤◌, ℕ, ℤ, List, [], ◌∷◌, ◌++◌, length, drop, codes, Result, Ok, Err, IfOk, refl, sym, ap, ◌∙◌, subst, arith}
+use Rattle.std.proofs.Common.{◌≡◌, ◌≢◌, ◌≤◌, ℕ, ℤ, ◌++◌, length, drop, codes, Result, Ok, Err, IfOk, refl, sym, ap, subst, arith}
 use Rattle.raim_base.specs.MemDeskState.{Each}
 use Rattle.text_lines.specs.Lines.{Text}
 use Rattle.command_words.specs.declared.Program.TheVariants.{Raim}
-use Rattle.fleet_text.specs.Fleet.{Outcome, IsBody, IsOverflowLine}
+use Rattle.fleet_text.specs.Fleet.{IsOverflowLine}
 use Rattle.fleet_text.specs.Fleet.Outcome.{Predicted, Refused, Overflows, Manifold}
 use Rattle.raim_run.specs.declared.Status.{Status}
 use Rattle.raim_run.specs.declared.Status.TheVariants as status
-use Rattle.raim_run.specs.Answers.{IsAnswer}
 use Rattle.raim_run.specs.Notes.{IsOverflowNote, IsNoteUnder}
 use Rattle.raim_run.specs.Printed.{HasNote, IsNotable}
 use Rattle.raim_run.specs.Texts.{from_texts, held_in, IsPredicted, IsUnpredicted}
-use Rattle.fleet_run.specs.Blocks.{IsOutcomeOf, IsLineOf, IsBodyOf}
+use Rattle.fleet_run.specs.Blocks.{IsLineOf, IsBodyOf}
 use Rattle.fleet_run.specs.Notes.{fleet_note}
 
 -- a note begins with the program's name

@@ -4,22 +4,20 @@ use Rattle.std.proofs.Common.{◌≡◌, ◌≢◌, ◌≤◌, ◌<◌, ◌⊎�
 use Rattle.std.specs.declared.option.Option.{Option}
 use Rattle.std.specs.declared.option.Option.TheVariants.{Some, None}
 use Rattle.raim_model.specs.declared.FileNo.{FileNo}
-use Rattle.raim_model.specs.declared.FileNo.TheVariants.{Limits, Almanac, Outages, Route}
-use Rattle.raim_model.specs.declared.TextWhy.{TextWhy}
+use Rattle.raim_model.specs.declared.FileNo.TheVariants.{Almanac, Route}
 use Rattle.raim_model.specs.declared.TextWhy.TheVariants.{FileTooLong, TooMany}
-use Rattle.raim_base.specs.Causes.{Rose}
 use Rattle.raim_base.specs.MemDeskState.{Each, of_file}
 use Rattle.raim_base.specs.Sizes.{longest_file}
 use Rattle.text_lines.specs.Lines.{Text}
 use Rattle.flight_files.specs.Files.{IsTooLong}
 use Rattle.flight_files.specs.Order.{place_of}
 use Rattle.flight_files.proofs.FileLemmas.{before_or_after, at_most_last}
-use Rattle.fleet_text.specs.Routes.{routes_of, excess_line}
+use Rattle.fleet_text.specs.Routes.{excess_line}
 use Rattle.raim_run.specs.declared.Status.{Status}
 use Rattle.raim_run.specs.declared.Status.TheVariants.{Done, Usage, Refused, ReadFault, WriteFault, Overflow, TooManyRuns, Memory}
-use Rattle.fleet_run.specs.Causes.{BlocksEnd, FleetCause, ReadingStops, OfFleet}
-use Rattle.fleet_run.specs.Files.{IsShort, AreShortBefore, AreRead, IsLongFirst, IsFaulty}
-use Rattle.fleet_run.specs.Settled.{AreTold, AreShort, IsFaultlessUpTo, IsSettled, Settles, Completes}
+use Rattle.fleet_run.specs.Causes.{BlocksEnd, FleetCause, ReadingStops}
+use Rattle.fleet_run.specs.Files.{IsShort, AreRead, IsLongFirst, IsFaulty}
+use Rattle.fleet_run.specs.Settled.{AreTold, AreShort, IsFaultlessUpTo, Settles, Completes}
 
 module _ (holds : Text → Option Text) (paths : Each Text) (before now : FileNo → ℕ) (old new : Option Text) (failed fails : ℕ) where
   abbrev Cause : Status → Type 0

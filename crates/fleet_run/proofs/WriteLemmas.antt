@@ -1,21 +1,19 @@
 -- Block after block.
-use Rattle.std.proofs.Common.{◌≡◌, ◌≤◌, ◌<◌, ◌+◌, ◌^◌, ◌⊎◌, ℕ, suc, List, [], ◌∷◌, ◌++◌, length, IfSome, IfNone, refl, sym, ap, ◌∙◌, subst, inl, inr, arith, append-nil, append_assoc, length-append}
+use Rattle.std.proofs.Common.{◌≡◌, ◌≤◌, ◌+◌, ℕ, suc, List, [], ◌∷◌, ◌++◌, length, IfSome, IfNone, refl, sym, ap, ◌∙◌, subst, arith, append-nil, append_assoc, length-append}
 use Rattle.std.specs.declared.option.Option.{Option}
 use Rattle.std.specs.declared.option.Option.TheVariants.{Some, None}
 use Rattle.std.specs.Io.KnownBytes.{Appends}
 use Rattle.std.proofs.KnownBytes.{Appends-nil, Appends-trans}
-use Rattle.raim_model.specs.declared.FileNo.{FileNo}
-use Rattle.raim_base.specs.Causes.{Rose, GrowsByFront}
+use Rattle.raim_base.specs.Causes.{GrowsByFront}
 use Rattle.raim_base.specs.MemDeskState.{Each}
 use Rattle.text_lines.specs.Lines.{Text}
 use Rattle.fleet_text.specs.Fleet.{block_of, blocks_from, fleet_text}
-use Rattle.fleet_text.specs.Routes.{routes_of, excess_line, most_routes}
+use Rattle.fleet_text.specs.Routes.{routes_of, most_routes}
 use Rattle.raim_run.specs.declared.Status.{Status}
 use Rattle.raim_run.specs.declared.Status.TheVariants.{Done, Usage, Refused, ReadFault, WriteFault, Overflow, TooManyRuns, Memory}
 use Rattle.raim_run.specs.Texts.{TakesSteps}
 use Rattle.fleet_run.specs.Blocks.{IsBodyOf, AreBodiesOf, with_route}
-use Rattle.fleet_run.specs.Causes.{BlocksEnd, BlockEnds, FleetCause}
-use Rattle.fleet_run.specs.Files.{AreRead}
+use Rattle.fleet_run.specs.Causes.{BlocksEnd, BlockEnds}
 use Rattle.fleet_run.specs.Steps.{TakeStepsInTurn, TakeFirstSteps}
 
 -- what stands behind the first route

@@ -24,7 +24,9 @@ const ALMANAC: &str = "5 FIVE\n2338 0\n\
 
 /// One second at one place on the equator.
 const SECOND: &str = "2024-10-27T00:00:00.000Z 0 0 0\n2024-10-27T00:00:01.000Z 0 0 0\n";
+
 const REPORT: &str = "2024-10-27T00:00:00.000Z 2024-10-27T00:00:01.000Z Available\n";
+
 const WORDS: [&str; 5] = ["raim_fleet", "limits", "almanac", "outages", "route"];
 
 /// How many bytes a call moves at most, and which calls fail.
@@ -109,29 +111,46 @@ fn run_with(
 }
 
 fn with_routes(routes: &str) -> [&[u8]; 4] {
-    [LIMITS.as_bytes(), ALMANAC.as_bytes(), b"", routes.as_bytes()]
+    [
+        LIMITS.as_bytes(),
+        ALMANAC.as_bytes(),
+        b"",
+        routes.as_bytes(),
+    ]
 }
 
 #[test]
 fn each_route_has_a_block(rt: HostRuntime) -> Result<(), Fail> {
     let alloc = rt.alloc();
     let one = format!(in alloc; "{SECOND}---\n2024-10-27T00:00:00.000Z 0 0 0\n---\n{SECOND}")?;
-    let one_blocks =
-        format!(in alloc; "route 1\n{REPORT}route 2\nrefused route line 1: TooFew\nroute 3\n{REPORT}")?;
+    let one_blocks = format!(in alloc;
+        "route 1\n{REPORT}route 2\nrefused route line 1: TooFew\nroute 3\n{REPORT}"
+    )?;
     let all = format!(in alloc; "{SECOND}---\n{SECOND}---\n{SECOND}")?;
     let all_blocks = format!(in alloc; "route 1\n{REPORT}route 2\n{REPORT}route 3\n{REPORT}")?;
     let ended = format!(in alloc; "---\n\nx\n---\n{SECOND}---")?;
     let ended_blocks = format!(in alloc;
-        "route 1\nrefused route line 0: TooFew\nroute 2\nrefused route line 2: Word\nroute 3\n{REPORT}route 4\nrefused route line 0: TooFew\n")?;
+        "route 1\nrefused route line 0: TooFew\nroute 2\nrefused route line 2: Word\nroute 3\n{REPORT}route 4\nrefused route line 0: TooFew\n"
+    )?;
     let steep = "leap 0\nmask -90\nalert 1\nbias 5 1000000000\n";
     let full = "route 1\noverflow at 2024-10-27T00:00:00.000Z PRN 01\n";
     let rows: [(&str, &str, &str, &str); 7] = [
         (LIMITS, ALMANAC, one.as_str(), one_blocks.as_str()),
         (LIMITS, ALMANAC, all.as_str(), all_blocks.as_str()),
-        (LIMITS, ALMANAC, "", "route 1\nrefused route line 0: TooFew\n"),
+        (
+            LIMITS,
+            ALMANAC,
+            "",
+            "route 1\nrefused route line 0: TooFew\n",
+        ),
         (LIMITS, ALMANAC, ended.as_str(), ended_blocks.as_str()),
         (steep, ALMANAC, SECOND, full),
-        ("", ALMANAC, SECOND, "route 1\nrefused limits line 0: Missing\n"),
+        (
+            "",
+            ALMANAC,
+            SECOND,
+            "route 1\nrefused limits line 0: Missing\n",
+        ),
         (
             LIMITS,
             "5 FIVE\n2338 0\n",
@@ -140,7 +159,12 @@ fn each_route_has_a_block(rt: HostRuntime) -> Result<(), Fail> {
         ),
     ];
     for (limits, almanac, routes, blocks) in rows {
-        let texts = [limits.as_bytes(), almanac.as_bytes(), b"", routes.as_bytes()];
+        let texts = [
+            limits.as_bytes(),
+            almanac.as_bytes(),
+            b"",
+            routes.as_bytes(),
+        ];
         let left = run_with(alloc, &WORDS, texts, SURE, SURE)?;
         assert_eq!(rt; left.status, Status::Done);
         assert_eq!(rt; left.out.as_slice(), blocks.as_bytes());
@@ -211,7 +235,10 @@ fn of_64_routes_each_third_is_refused(rt: HostRuntime) -> Result<(), Fail> {
     let left = run_with(alloc, &WORDS, texts, SURE, SURE)?;
     assert_eq!(rt; left.status.number(), 2);
     assert_eq!(rt; left.out.len(), 0);
-    assert_eq!(rt; left.note.as_slice(), b"raim: route line 177: TooMany\n".as_slice());
+    assert_eq!(rt;
+        left.note.as_slice(),
+        b"raim: route line 177: TooMany\n".as_slice()
+    );
     Ok(())
 }
 
@@ -290,8 +317,9 @@ fn each_call_of_the_desk_may_fail(rt: HostRuntime) -> Result<(), Fail> {
 fn each_write_may_fail(rt: HostRuntime) -> Result<(), Fail> {
     let alloc = rt.alloc();
     let routes = format!(in alloc; "{SECOND}---\n---\n{SECOND}")?;
-    let blocks =
-        format!(in alloc; "route 1\n{REPORT}route 2\nrefused route line 0: TooFew\nroute 3\n{REPORT}")?;
+    let blocks = format!(in alloc;
+        "route 1\n{REPORT}route 2\nrefused route line 0: TooFew\nroute 3\n{REPORT}"
+    )?;
     for call in 1..100u64 {
         let writes = Calls {
             chunk: 17,

@@ -1,9 +1,7 @@
 -- What four texts settle.
-use Rattle.std.proofs.Common.{◌≡◌, ◌≢◌, ◌≤◌, ◌⊎◌, ℕ, ℤ, List, None, inl, inr, Result, Ok, Err, IfOk, IfErr, IsOkAnd, refl, sym, ap, subst, arith, ◌∙◌}
-use Rattle.std.specs.declared.option.Option.{Option}
+use Rattle.std.proofs.Common.{◌≡◌, ◌≢◌, ◌⊎◌, ℕ, List, None, inl, inr, Result, Ok, Err, IfOk, IfErr, IsOkAnd, refl, sym, ap, subst, arith}
 use Rattle.raim_model.specs.declared.FileNo.{FileNo}
 use Rattle.raim_model.specs.declared.Run.{Run}
-use Rattle.raim_model.specs.declared.TextWhy.{TextWhy}
 use Rattle.raim_model.specs.Route.{flight_of}
 use Rattle.raim_model.specs.Runs.{HasRuns}
 use Rattle.raim_model.specs.Solution.{Case}
@@ -22,7 +20,7 @@ use Rattle.raim_run.specs.declared.status.Status.TheVariants.{Done, Usage, Refus
 use Rattle.raim_run.specs.Causes.{NoRunsCause, StatusCause}
 use Rattle.raim_run.specs.Settled.{IsSettled}
 use Rattle.raim_run.specs.Sources.{paths_of, told_of}
-use Rattle.raim_run.specs.Texts.{from_texts, held_in, IsPredicted, IsUnpredicted, AreRefused, Overflows, AreManifold, Settle}
+use Rattle.raim_run.specs.Texts.{from_texts, held_in, IsPredicted, IsUnpredicted, Settle}
 use Rattle.raim_run.proofs.Clashes.{case_once}
 use Rattle.raim_run.proofs.Settling.{settled_by}
 
@@ -106,7 +104,7 @@ module _ (texts : Each Text) where
       → result ≢ Err Memory → Settle texts bytes result
   texts_settle bytes result ok err m =
       let settled : IsSettled from_texts (held_in texts) (status_of result)
-          = settled_by from_texts (held_in texts) (λ file. 0) (λ file. 0) None None 0 0 (status_of result) (cause_of bytes result ok err) are_told (not_memory result m) in
+      = settled_by from_texts (held_in texts) (λ file. 0) (λ file. 0) None None 0 0 (status_of result) (cause_of bytes result ok err) are_told (not_memory result m) in
       record {
         predicted = λ text is. is_done bytes result text ok err is (settled.answered is.case is.runs is.found.accepted is.found.runs_are (λ file le. no_fault result file err));
         refused = λ file line why is. is_err result (Refused file line why) err (settled.refused file line why is (λ f le. no_fault result f err)) (λ e. cc);

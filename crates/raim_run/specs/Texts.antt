@@ -1,5 +1,5 @@
 -- A prediction from four texts that are at hand.
-use Rattle.std.specs.Prelude.{◌≡◌, ◌≢◌, ℕ, ℤ, Result, Ok, Err, IsOkAnd}
+use Rattle.std.specs.Prelude.{◌≡◌, ℕ, ℤ, Result, Err, IsOkAnd}
 use Rattle.std.specs.declared.option.Option.{Option}
 use Rattle.std.specs.declared.option.Option.TheVariants.{Some}
 use Rattle.raim_model.specs.declared.FileNo.{FileNo}

@@ -50,7 +50,10 @@ fn four_texts_are_predicted_or_refused(rt: HostRuntime) -> Result<(), Fail> {
     long.resize(LONGEST_FILE + 1, b'\n')?;
     let rows: [(Texts, Status); 5] = [
         (
-            Texts { route: b"x\n", ..all },
+            Texts {
+                route: b"x\n",
+                ..all
+            },
             refused(FileNo::Route, 1, TextWhy::Word),
         ),
         (

@@ -1,4 +1,4 @@
-use Rattle.std.proofs.Common.{ℕ, Vec, Global, IfOk, Result, Ok, Err}
+use Rattle.std.proofs.Common.{ℕ, Vec, Global}
 use Rattle.fleet_run.specs.Blocks.{with_route}
 use Rattle.fleet_run.specs.Texts.{texts_of}
 use Rattle.fleet_run.proofs.LineLemmas.{notable, predicted_body, line_bodies}

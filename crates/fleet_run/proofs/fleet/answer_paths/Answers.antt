@@ -1,4 +1,4 @@
-use Rattle.std.proofs.Common.{refl, sym, subst, inl, inr}
+use Rattle.std.proofs.Common.{refl, sym, subst, inr}
 use Rattle.raim_base.specs.MemDeskState.{Each}
 use Rattle.text_lines.specs.Lines.{Text}
 use Rattle.flight_files.specs.Paths.{paths_of}
