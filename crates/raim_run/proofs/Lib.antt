@@ -4,3 +4,4 @@ pub mod RunLemmas
 pub mod NoteLemmas
 pub mod FileLemmas
 pub mod CaseLemmas
+pub mod PredictLemmas

@@ -13,3 +13,4 @@ pub mod Steps
 pub mod Notes
 pub mod Endings
 pub mod CaseRead
+pub mod Texts

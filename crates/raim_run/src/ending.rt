@@ -2,9 +2,9 @@
 
 use crate::Status;
 
-// A status, and the leap seconds under which its note has a time: those of the limits, or 0 where it has none.
+/// A status, and the leap seconds under which its note has a time: those of the limits, or 0 where it has none.
 #[derive(Clone, Copy, Debug)]
-pub(crate) struct Ending {
-    pub(crate) status: Status,
-    pub(crate) leap: u8,
+pub struct Ending {
+    pub status: Status,
+    pub leap: u8,
 }

@@ -15,8 +15,8 @@ use itoa::Buffer;
 use raim_base::{name_of_file, words_of_why};
 use raim_model::{FileNo, TextWhy};
 
-// A note; the longest has 120 bytes or so.
-pub(crate) type Note = ArrayVec<u8, 256>;
+/// A note; the longest has 120 bytes or so.
+pub type Note = ArrayVec<u8, 256>;
 
 fn push(note: &mut Note, text: &[u8])
     requires { array_vec_len note.old + length text.now ≤ 256 }
@@ -114,8 +114,8 @@ fn usage_note(program: Program) -> Note
     }
 }
 
-// The line that an ending of a program writes to the note, with its line feed; none where the run is done.
-pub(crate) fn note_line(program: Program, ending: Ending) -> Note
+/// The line that an ending of a program writes to the note, with its line feed; none where the run is done.
+pub fn note_line(program: Program, ending: Ending) -> Note
     requires { IsNotable ending.leap ending.status }
     ensures { IsNoteUnder program ending.leap ending.status result.items }
 {

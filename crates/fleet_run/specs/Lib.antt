@@ -1,0 +1,10 @@
+pub mod Texts
+pub mod Words
+pub mod Blocks
+pub mod Files
+pub mod Causes
+pub mod Settled
+pub mod Steps
+pub mod Notes
+pub mod Endings
+pub mod Laws
