@@ -1,0 +1,6 @@
+pub mod BandLemmas
+pub mod FlightLemmas
+pub mod HourLemmas
+pub mod PageLemmas
+pub mod SpanLemmas
+pub mod TextLemmas
