@@ -74,7 +74,7 @@ pub last_instant : (span : Span) (runs : List Run) → span_of runs ≡ Some spa
 last_instant span runs is flight = (instants span runs is flight.printable).1
 
 -- a flight that has runs takes some time
-forward : (span : Span) (runs : List Run) → span_of runs ≡ Some span → Follow span.first span.end runs → span.first <ℤ span.end
+pub forward : (span : Span) (runs : List Run) → span_of runs ≡ Some span → Follow span.first span.end runs → span.first <ℤ span.end
 forward span [] is follow = let none = is in cc
 forward span (run ∷ more) is follow = omega (arith, signed_arith, follow.1, rises run.end span.end more follow.2)
 

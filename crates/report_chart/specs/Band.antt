@@ -9,6 +9,10 @@ use Rattle.report_chart.specs.declared.kind.Kind.{Kind}
 use Rattle.report_chart.specs.Clock.{clock_text}
 use Rattle.report_chart.specs.Kinds.{kind_of, word_of, class_of}
 
+-- how wide a band is
+abbrev pub band_units : ℕ
+band_units = 100000
+
 -- how many milliseconds lie between two times
 abbrev pub ms_between : ℤ → ℤ → ℕ
 ms_between first end = unsigned_abs (end -ℤ first)
@@ -19,7 +23,7 @@ ms_of_run run = ms_between run.first run.end
 
 -- where a time of the flight stands on its band, rounded down
 abbrev pub place : Span → ℤ → ℕ
-place span t = 100000 * ms_between span.first t / ms_between span.first span.end
+place span t = band_units * ms_between span.first t / ms_between span.first span.end
 
 -- how wide the bar of a run is
 abbrev pub width : Span → Run → ℕ

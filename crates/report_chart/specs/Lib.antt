@@ -6,6 +6,7 @@ pub mod Gaps
 pub mod Head
 pub mod Hours
 pub mod Kinds
+pub mod Laws
 pub mod Page
 pub mod Reasons
 pub mod Refused
