@@ -1,5 +1,5 @@
 -- Bars lie side by side.
-use Rattle.std.proofs.Common.{◌≡◌, ◌∙◌, refl, sym, ap, subst, ℕ, ◌+◌, ◌-◌, ◌*◌, ◌/◌, ◌%◌, ◌≤◌, ◌<◌, ℤ, pos, ◌≤ℤ◌, ◌<ℤ◌, ◌-ℤ◌, List, [], ◌∷◌, Some, add-mul, one-mul, arith}
+use Rattle.std.proofs.Common.{◌≡◌, ◌∙◌, sym, ap, subst, ℕ, ◌+◌, ◌-◌, ◌*◌, ◌/◌, ◌≤◌, ◌<◌, ℤ, pos, ◌≤ℤ◌, ◌<ℤ◌, ◌-ℤ◌, List, [], ◌∷◌, add-mul, one-mul, arith}
 use Rattle.std.specs.Prelude.{unsigned_abs}
 use Rattle.std.specs.List.{sum_by}
 use Rattle.std.proofs.Math.Nat.{mul-div_cancel}
@@ -10,9 +10,9 @@ use Rattle.gps_week.proofs.CastLemmas.{unsigned_abs-not_negative}
 use Rattle.raim_model.specs.declared.verdict.Run.{Run}
 use Rattle.raim_model.specs.declared.span.Span.{Span}
 use Rattle.report_chart.specs.Band.{band_units, ms_between, place, width}
-use Rattle.report_chart.specs.Chart.{span_of, Follow}
+use Rattle.report_chart.specs.Chart.{Follow}
 use Rattle.report_chart.specs.Laws.{LieSideBySide, BarsFillTheBand, WidthsAddUp, PlacesAreShares}
-use Rattle.report_chart.proofs.FlightLemmas.{rises, forward}
+use Rattle.report_chart.proofs.FlightLemmas.{forward}
 
 -- milliseconds between two times, as a difference
 pub between : (first end : ℤ) → first ≤ℤ end → pos (ms_between first end) ≡ end -ℤ first

@@ -5,8 +5,8 @@ use Rattle.std.proofs.lemmas.List.Elements.{All-head, All-tail}
 use Rattle.raim_model.specs.Constants.{day_ms}
 use Rattle.raim_model.specs.declared.verdict.Run.{Run}
 use Rattle.raim_model.specs.declared.span.Span.{Span}
-use Rattle.report_text.specs.Report.{IsPrintable, IsReadable}
-use Rattle.report_chart.specs.Chart.{end_after, span_of, Follow, IsFlight}
+use Rattle.report_text.specs.Report.{IsReadable}
+use Rattle.report_chart.specs.Chart.{end_after, span_of, Follow}
 
 -- the first runs, so many, each start where the one before ends
 abbrev pub AreJoined : List Run → ℕ → Type 0

@@ -1,10 +1,7 @@
 -- Hours, reasons and pages.
-use Rattle.std.proofs.Common.{◌≡◌, ◌≢◌, ◌∙◌, refl, sym, ap, ap₂, ℕ, ◌+◌, ◌-◌, ◌*◌, ◌/◌, ◌≤◌, ◌<◌, ℤ, pos, ◌≤ℤ◌, ◌<ℤ◌, List, [], ◌∷◌, ◌++◌, Option, Some, None, Bool, true, false, cond, arith}
-use Rattle.std.specs.Prelude.{unsigned_abs, All, codes, nat_le, nat_lt, ◌==◌, ◌&&◌, MatchOption}
-use Rattle.std.specs.List.{flat_map}
-use Rattle.std.proofs.lemmas.List.Elements.{All-nil, All-cons, All-append}
+use Rattle.std.proofs.Common.{◌≡◌, ◌∙◌, sym, ap, ap₂, ℕ, ◌+◌, ◌-◌, ◌*◌, ◌/◌, ◌≤◌, ℤ, pos, ◌≤ℤ◌, List, [], ◌∷◌, ◌++◌, Option, Some, None, arith}
+use Rattle.std.specs.Prelude.{unsigned_abs, codes, MatchOption}
 use Rattle.jiff_core.proofs.SignedLemmas.{signed_arith}
-use Rattle.gps_week.specs.GpsTime.{SpellsInstant}
 use Rattle.gps_week.proofs.CastLemmas.{unsigned_abs-not_negative}
 use Rattle.gps_week.proofs.InstantLemmas.{one_text}
 use Rattle.raim_model.specs.declared.verdict.Run.{Run}
@@ -16,11 +13,9 @@ use Rattle.report_chart.specs.declared.chart.Row.{Row}
 use Rattle.report_chart.specs.declared.chart.Row.TheVariants as row
 use Rattle.report_chart.specs.Chart.{span_of}
 use Rattle.report_chart.specs.Clock.{hour_ms}
-use Rattle.report_chart.specs.Hours.{hour_from, hour_until, IsFlightSpan}
-use Rattle.report_chart.specs.Refused.{escaped_byte}
 use Rattle.report_chart.specs.Head.{page_head}
-use Rattle.report_chart.specs.Page.{IsSentence, details, ShowsRuns, ShowsFlight, heading, ShowsRow, ShowsRows, ShowsChart, IsPage}
-use Rattle.report_chart.specs.Laws.{HoursAreWhole, IsPlain, ReasonsArePlain, HasOnePage}
+use Rattle.report_chart.specs.Page.{IsSentence, details, ShowsRuns, heading, ShowsRow, ShowsRows, ShowsChart}
+use Rattle.report_chart.specs.Laws.{HoursAreWhole, HasOnePage}
 
 pub whole_hours : HoursAreWhole
 whole_hours span hour is =

@@ -1,11 +1,10 @@
 -- The three kinds add up to the flight.
-use Rattle.std.proofs.Common.{◌≡◌, ◌∙◌, refl, ap, ℕ, ◌+◌, ℤ, pos, ◌≤ℤ◌, ◌<ℤ◌, ◌-ℤ◌, List, [], ◌∷◌, length, cond, arith}
+use Rattle.std.proofs.Common.{◌≡◌, ◌∙◌, refl, ap, ℕ, ◌+◌, ℤ, pos, ◌-ℤ◌, List, [], ◌∷◌, length, cond, arith}
 use Rattle.std.proofs.lemmas.List.Sums.{sum_by-cons}
 use Rattle.jiff_core.proofs.SignedLemmas.{signed_arith}
 use Rattle.raim_model.specs.declared.verdict.Run.{Run}
 use Rattle.raim_model.specs.declared.verdict.Verdict.{Verdict}
 use Rattle.raim_model.specs.declared.verdict.Verdict.TheVariants as verdict
-use Rattle.raim_model.specs.declared.span.Span.{Span}
 use Rattle.report_chart.specs.declared.kind.Kind.TheVariants.{Available, Unavailable, Undecided}
 use Rattle.report_chart.specs.Kinds.{has_kind}
 use Rattle.report_chart.specs.Band.{ms_between, ms_of_run}
