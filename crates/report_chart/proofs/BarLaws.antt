@@ -49,11 +49,11 @@ place_first span = ap (λ (z : ℤ). band_units * unsigned_abs z / ms_between sp
     zero_share : (n : ℕ) → 0 / n ≡ 0
     zero_share n = omega arith
 
-place_end : (span : Span) → span.first <ℤ span.end → place span span.end ≡ band_units
+pub place_end : (span : Span) → span.first <ℤ span.end → place span span.end ≡ band_units
 place_end span forward = mul-div_cancel band_units (some_ms span.first span.end forward)
 
 -- a later time stands no farther left
-place_rises : (span : Span) (first end : ℤ) → span.first <ℤ span.end → span.first ≤ℤ first → first ≤ℤ end → place span first ≤ place span end
+pub place_rises : (span : Span) (first end : ℤ) → span.first <ℤ span.end → span.first ≤ℤ first → first ≤ℤ end → place span first ≤ place span end
 place_rises span first end forward from below =
     let a = between span.first first from in
     let b = between span.first end (omega (arith, signed_arith, from, below)) in

@@ -1,3 +1,4 @@
+pub mod AsciiLaws
 pub mod BandLemmas
 pub mod BarLaws
 pub mod FlightLemmas

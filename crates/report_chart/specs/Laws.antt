@@ -1,13 +1,15 @@
 -- What is promised of pages as such.
-use Rattle.std.specs.Prelude.{◌≡◌, ◌≢◌, ◌↔◌, ℕ, ◌+◌, ◌*◌, ◌≤◌, ◌<◌, ℤ, pos, ◌≤ℤ◌, ◌<ℤ◌, List, [], ◌∷◌, length, Some, All, Contains}
+use Rattle.std.specs.Prelude.{◌≡◌, ◌≢◌, ◌↔◌, ℕ, ◌+◌, ◌*◌, ◌^◌, ◌≤◌, ◌<◌, ℤ, pos, ◌≤ℤ◌, ◌<ℤ◌, List, [], ◌∷◌, length, Some, All, Contains}
 use Rattle.std.specs.List.{flat_map, sum_by}
+use Rattle.std.specs.Str.{IsAscii}
 use Rattle.raim_model.specs.declared.verdict.Run.{Run}
 use Rattle.raim_model.specs.declared.verdict.Verdict.TheVariants as verdict
 use Rattle.raim_model.specs.declared.span.Span.{Span}
 use Rattle.text_lines.specs.Lines.{Text}
 use Rattle.report_chart.specs.declared.chart.Chart.{Chart}
+use Rattle.report_chart.specs.declared.chart.Chart.TheVariants as chart
 use Rattle.report_chart.specs.declared.kind.Kind.TheVariants.{Available, Unavailable, Undecided}
-use Rattle.report_chart.specs.Chart.{span_of, AreRunsOf}
+use Rattle.report_chart.specs.Chart.{span_of, AreRunsOf, IsChart}
 use Rattle.report_chart.specs.Clock.{hour_ms}
 use Rattle.report_chart.specs.Band.{band_units, ms_between, ms_of_run, place, width}
 use Rattle.report_chart.specs.Hours.{hour_from, hour_until, IsFlightSpan}
@@ -70,6 +72,15 @@ pub record IsPlain (b : ℕ) : Type 0 where
 abbrev pub ReasonsArePlain : Type 0
 ReasonsArePlain = (line : Text) → All IsPlain (flat_map escaped_byte line)
 
+-- no more routes than a vector has room for
+abbrev pub HasFewRoutes : Chart → Type 0
+HasFewRoutes (chart.Flight runs) = Unit {0}
+HasFewRoutes (chart.Fleet rows) = length rows.items < 2 ^ 63
+
+-- a page is ASCII
+abbrev pub PagesAreAscii : Type 0
+PagesAreAscii = (c : Chart) (text : Text) → IsChart c → HasFewRoutes c → IsPage c text → IsAscii text
+
 -- a chart has one page at most
 abbrev pub HasOnePage : Type 0
-HasOnePage = (chart : Chart) (text other : Text) → IsPage chart text → IsPage chart other → other ≡ text
+HasOnePage = (c : Chart) (text other : Text) → IsPage c text → IsPage c other → other ≡ text

@@ -4,7 +4,7 @@ ghost use Rattle.report_chart.specs.Kinds.{kind_of, is_kind, has_kind, class_of,
 
 use raim_model::{Run, Verdict};
 
-#[derive(Clone, Copy, Debug)]
+#[derive(Clone, Copy)]
 pub(crate) enum Kind {
     Available,
     Unavailable,

@@ -1,5 +1,5 @@
 // Laws of pages, the contracts of functions that do nothing.
-ghost use Rattle.report_chart.specs.Laws.{BarsFillTheBand, WidthsAddUp, PlacesAreShares, HoursAreWhole, TableHasGaps, LongestIsLongest, RunsAddUp, TimesAddUp, ReasonsArePlain, HasOnePage};
+ghost use Rattle.report_chart.specs.Laws.{BarsFillTheBand, WidthsAddUp, PlacesAreShares, HoursAreWhole, TableHasGaps, LongestIsLongest, RunsAddUp, TimesAddUp, ReasonsArePlain, PagesAreAscii, HasOnePage};
 
 /// The bars of a flight fill its band: the first starts at 0, each starts where the one before it ends, the
 /// last ends at 100,000 (`fill`), their widths add up to that (`widths`), and each place is the time's share
@@ -33,6 +33,11 @@ pub fn totals_add_up()
 /// Whatever the bytes of a reason are, they are shown as text: printable ASCII without `<`, `>` and `"`.
 pub fn reasons_are_plain()
     ensures { ReasonsArePlain }
+{}
+
+/// A page is ASCII.
+pub fn pages_are_ascii()
+    ensures { PagesAreAscii }
 {}
 
 /// A chart has one page at most.

@@ -23,7 +23,7 @@ mod totals;
 
 pub use chart::{Chart, Row};
 pub use laws::{
-    a_chart_has_one_page, bars_lie_side_by_side, hours_are_whole, reasons_are_plain,
-    the_table_has_what_is_not_available, totals_add_up,
+    a_chart_has_one_page, bars_lie_side_by_side, hours_are_whole, pages_are_ascii,
+    reasons_are_plain, the_table_has_what_is_not_available, totals_add_up,
 };
 pub use page::print_chart;
