@@ -1,0 +1,13 @@
+pub mod AsciiLaws
+pub mod BandLemmas
+pub mod BarLaws
+pub mod FlightLemmas
+pub mod FollowLemmas
+pub mod HourLemmas
+pub mod PageLaws
+pub mod PageLemmas
+pub mod ReasonLaws
+pub mod SpanLemmas
+pub mod TableLaws
+pub mod TextLemmas
+pub mod TotalLaws

@@ -1,0 +1,13 @@
+pub mod Appended
+pub mod Band
+pub mod Chart
+pub mod Clock
+pub mod Gaps
+pub mod Head
+pub mod Hours
+pub mod Kinds
+pub mod Laws
+pub mod Page
+pub mod Reasons
+pub mod Refused
+pub mod Totals
