@@ -1,5 +1,6 @@
 # Runs the program NAME of crates/NAME_cli, and builds it first where it is missing or older than its sources. Where a build
-# fails no program runs, not even an older one, and the status is 70. Read by ./raim, ./raim_vert, ./raim_fleet and ./notice, which set `here`.
+# fails no program runs, not even an older one, and the status is 70. Read by ./raim, ./raim_vert, ./raim_fleet,
+# ./raim_chart and ./notice, which set `here`.
 
 is_current() {
     [ -x "$program" ] || return 1
@@ -8,7 +9,7 @@ is_current() {
 }
 
 build() {
-    echo "$name: building; the first build proves every crate below the program, which takes some twenty minutes for raim, raim_vert or raim_fleet, a few for notice" >&2
+    echo "$name: building; the first build proves every crate below the program, which takes some twenty minutes for raim, raim_vert or raim_fleet, a few for notice and raim_chart" >&2
     rm -f -- "$program"
     log=$(mktemp) || exit 70
     (cd -- "$here/crates/${name}_cli" && rt run </dev/null) >"$log" 2>&1
