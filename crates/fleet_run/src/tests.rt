@@ -194,7 +194,7 @@ fn push_route(text: &mut Vec<u8>, k: u32) -> Result<(), Fail> {
 
 // The block of route k, from the causes in their order.
 fn push_block(alloc: Global, text: &mut Vec<u8>, k: u32) -> Result<(), Fail> {
-    let number = k + 1;
+    let number = k.saturating_add(1);
     let head = format!(in alloc; "route {number}\n")?;
     text.extend_from_slice(head.as_bytes())?;
     let body = if k % 3 != 2 {
