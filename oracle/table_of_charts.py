@@ -5,9 +5,9 @@ refusal. They are read here by a pattern and the calendar of Python.
 Usage: python3 oracle/table_of_charts.py > crates/chart_text/src/tests/tables.rt
 """
 import re
-from datetime import datetime, timedelta, timezone
 
-EPOCH = datetime(1980, 1, 6, tzinfo=timezone.utc)
+from utc import ms_of
+
 DAY = 86_400_000
 # what a percent sign and a digit stand for in a row
 TIMES = {
@@ -18,7 +18,6 @@ TIMES = {
     "%9": "2024-10-28T00:00:00.001Z",
 }
 LINE = re.compile(r"(\S+Z) (\S+Z) (Available|Unavailable Few|Undecided Mask (\d\d))\n", re.ASCII)
-TIME = re.compile(r"\d{4}-\d\d-\d\dT\d\d:\d\d:\d\d\.\d{3}Z", re.ASCII)
 REASON = re.compile(r"refused |overflow at |more than ")
 
 READ = [
@@ -57,17 +56,6 @@ REFUSED = [
     ("Other beginnings are a report's.", ["route 1\nrefused\n", "route 1\nmore  than x\n", "route 1\n refused x\n", "route 1\n%0 %1 Available\nrefused x\n"]),
     ("The first block that is refused is named.", ["route 1\nx\nroute 3\n", "route 1\nroute 3\nx\n"]),
 ]
-
-
-def ms_of(word):
-    """The milliseconds of a time of UTC since the epoch, or None."""
-    if not TIME.fullmatch(word):
-        return None
-    try:
-        time = datetime.strptime(word[:-1] + "000+0000", "%Y-%m-%dT%H:%M:%S.%f%z")
-    except ValueError:
-        return None
-    return None if time < EPOCH else (time - EPOCH) // timedelta(milliseconds=1)
 
 
 def lines_of(text):

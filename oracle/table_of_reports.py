@@ -5,10 +5,10 @@ the cause of their refusal. They are read here from the rules of docs/FORMATS.md
 Usage: python3 oracle/table_of_reports.py > crates/report_text/src/tests/tables.rt
 """
 import re
-from datetime import datetime, timedelta, timezone
+
+from utc import ms_of
 
 LEAP = 18
-EPOCH = datetime(1980, 1, 6, tzinfo=timezone.utc)
 # what the letters of a row stand for
 TIMES = {"X": "2024-10-27T00:00:00.000Z", "Y": "2024-10-27T00:00:01.000Z"}
 FORMS = [
@@ -22,7 +22,6 @@ FORMS = [
     r"Undecided DetWithout (\d\d)",
     r"Undecided SlopeWithout (\d\d) (\d\d)",
 ]
-TIME = re.compile(r"\d{4}-\d\d-\d\dT\d\d:\d\d:\d\d\.\d{3}Z", re.ASCII)
 
 READ = [
     ("No run has no line.", [""]),
@@ -44,17 +43,6 @@ REFUSED = [
 ]
 
 
-def ms_of(word):
-    """The milliseconds of a time of UTC, in GPS time, or None."""
-    if not TIME.fullmatch(word):
-        return None
-    try:
-        time = datetime.strptime(word[:-1] + "000+0000", "%Y-%m-%dT%H:%M:%S.%f%z")
-    except ValueError:
-        return None
-    return None if time < EPOCH else (time - EPOCH) // timedelta(milliseconds=1) + 1000 * LEAP
-
-
 def run_of(line):
     """The run that a line without its line feed says, or the cause of its refusal."""
     words = line.split(" ", 2)
@@ -63,7 +51,7 @@ def run_of(line):
     found = [(k, match) for k, form in enumerate(FORMS) if (match := re.fullmatch(form, words[2], re.ASCII))]
     if not found:
         return "Word"
-    first, end = ms_of(words[0]), ms_of(words[1])
+    first, end = ms_of(words[0], LEAP), ms_of(words[1], LEAP)
     if first is None or end is None:
         return "Time"
     form, prns = found[0][0], [int(digits) for digits in found[0][1].groups()]
