@@ -6,8 +6,6 @@
 
 mod choice;
 mod handover;
-#[cfg(test)]
-mod tests;
 
 pub use choice::in_force_at;
 pub use handover::handovers;

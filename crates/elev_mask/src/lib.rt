@@ -9,8 +9,6 @@ mod direction;
 mod line;
 mod looks;
 mod sight;
-#[cfg(test)]
-mod tests;
 
 pub use looks::look;
 pub use sight::Sight;

@@ -4,12 +4,8 @@
 //! The contracts fix each answer by the definitions in `slope_laws`.
 #![tactic(auto)]
 
-#[cfg(test)]
-mod cases;
 mod exclusion;
 mod pairs;
-#[cfg(test)]
-mod tests;
 mod told;
 
 pub use exclusion::{exclude, exclude_over};

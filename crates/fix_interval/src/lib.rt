@@ -2,8 +2,6 @@
 //! `specs/`, encloses the operation on fractions, and is isotone.
 #![tactic(auto)]
 
-#[cfg(test)]
-mod cases;
 mod comparisons;
 mod decimals;
 mod interval;
@@ -15,8 +13,6 @@ mod quotients;
 mod roots;
 mod searches;
 mod sums;
-#[cfg(test)]
-mod tests;
 mod unit_products;
 mod widths;
 

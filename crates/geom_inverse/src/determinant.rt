@@ -105,7 +105,7 @@ pub fn det_64(h: &Sym4) -> Iv64
     in_64_bits(det(h))
 }
 
-/// The determinant without the row at place `i`, where the sums over all rows are at hand: as `det_64` answers it of `gram_less`.
+/// The determinant without the row at place `i`, where the sums over all rows are at hand: as `det_64` answers it of the normal matrix of the others.
 pub fn det_without(all: &Sym4, rows: &[Row], i: usize) -> Iv64
     requires few { length rows.now ≤ 32 }
     requires place { i < length rows.now }

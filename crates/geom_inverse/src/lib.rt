@@ -5,8 +5,6 @@
 #![tactic(auto)]
 
 mod alpha;
-#[cfg(test)]
-mod cases;
 mod cofactors;
 mod determinant;
 mod entries;
@@ -17,15 +15,13 @@ mod normal;
 mod products;
 mod row;
 mod sym4;
-#[cfg(test)]
-mod tests;
 mod weighed;
 mod wide_sums;
 
 pub use alpha::{alpha_east, alpha_north, alpha_up};
 pub use cofactors::adjugate;
 pub use determinant::{det, det_64, det_without};
-pub use normal::{gram, gram_less, gram_of_sums, gram_without, sums, sums_less};
+pub use normal::{gram_of_sums, sums, sums_less};
 pub use products::{narrow76, wide_product, wide_square};
 pub use row::Row;
 pub use sym4::Sym4;

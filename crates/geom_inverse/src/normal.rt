@@ -136,29 +136,6 @@ pub fn gram_of_sums(all: &Sym4, rows: &[Row]) -> Sym4
     rounded(all)
 }
 
-/// The normal matrix, in units of 2^-38.
-pub fn gram(rows: &[Row]) -> Sym4
-    requires few { length rows.now ≤ 32 }
-    ensures exact { sym_ends result ≡ gram_of (rows_ends rows.now) }
-    ensures encloses { (gs : List ExactRow) → RowsLie (rows_ends rows.now) gs → SymLies (sym_ends result) (normal_matrix gs) }
-    ensures isotone { (wider : List RowEnds) → RowsInside (rows_ends rows.now) wider → SymInside (sym_ends result) (gram_of wider) }
-    ensures small { IsSymWithin result (2 ^ 43 + 2 ^ 7) }
-{
-    gram_of_sums(&sums(rows), rows)
-}
-
-/// The normal matrix without the row at place `i`.
-pub fn gram_without(rows: &[Row], i: usize) -> Sym4
-    requires few { length rows.now ≤ 32 }
-    requires place { i < length rows.now }
-    ensures exact { sym_ends result ≡ gram_without_of (rows_ends rows.now) i }
-    ensures encloses { (gs : List ExactRow) → RowsLie (rows_ends rows.now) gs → SymLies (sym_ends result) (normal_matrix (without i gs)) }
-    ensures isotone { (wider : List RowEnds) → RowsInside (rows_ends rows.now) wider → SymInside (sym_ends result) (gram_without_of wider i) }
-    ensures small { IsSymWithin result (2 ^ 43 + 2 ^ 7) }
-{
-    gram_less(&sums(rows), rows, i)
-}
-
 /// The sums of all rows less the products of the row at place `i`.
 #[inline(always)]
 pub(crate) fn difference(all: &Sym4, rows: &[Row], i: usize) -> Sym4
@@ -213,17 +190,4 @@ pub(crate) fn entries_of_sums(a: &Sym4) -> Entries
         a34: narrowed(a.a34),
         a44: narrowed(a.a44),
     }
-}
-
-/// The normal matrix without the row at place `i`, where the sums over all rows are at hand.
-pub fn gram_less(all: &Sym4, rows: &[Row], i: usize) -> Sym4
-    requires few { length rows.now ≤ 32 }
-    requires place { i < length rows.now }
-    requires all { sym_ends all.now ≡ sums_of (rows_ends rows.now) }
-    ensures exact { sym_ends result ≡ gram_without_of (rows_ends rows.now) i }
-    ensures encloses { (gs : List ExactRow) → RowsLie (rows_ends rows.now) gs → SymLies (sym_ends result) (normal_matrix (without i gs)) }
-    ensures isotone { (wider : List RowEnds) → RowsInside (rows_ends rows.now) wider → SymInside (sym_ends result) (gram_without_of wider i) }
-    ensures small { IsSymWithin result (2 ^ 43 + 2 ^ 7) }
-{
-    rounded(&sums_less(all, rows, i))
 }

@@ -7,16 +7,12 @@
 #![tactic(auto)]
 
 mod anomaly;
-#[cfg(test)]
-mod cases;
 mod eccentricity;
 mod ends;
 mod lead;
 mod mean;
 mod mean_tests;
 mod search;
-#[cfg(test)]
-mod tests;
 mod wraps;
 
 pub use ends::anomalies;

@@ -6,8 +6,6 @@
 mod piece;
 mod place;
 mod place_box;
-#[cfg(test)]
-mod tests;
 
 pub use place::place_over;
 pub use place_box::PlaceBox;

@@ -4,8 +4,6 @@
 //! within a quarter turn every quantity fits 64 bits, and each end is one chain of six products.
 #![tactic(auto)]
 
-#[cfg(test)]
-mod cases;
 mod eighth;
 mod interval_of_turns;
 mod nested;
@@ -14,8 +12,6 @@ mod points;
 mod quarters;
 mod radians;
 mod square;
-#[cfg(test)]
-mod tests;
 mod turns;
 mod unit_iv;
 

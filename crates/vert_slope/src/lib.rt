@@ -7,8 +7,6 @@
 mod answers;
 mod judge;
 mod slopes;
-#[cfg(test)]
-mod tests;
 
 pub use judge::UpJudge;
 pub use slopes::{detect_up, exclude_up};

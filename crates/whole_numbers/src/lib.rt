@@ -5,5 +5,3 @@
 pub mod laws;
 pub mod root;
 pub mod rounding;
-#[cfg(test)]
-mod tests;

@@ -1,0 +1,16 @@
+use Rattle.std.proofs.Common.{inl, true, false}
+use lib.Dec.{lit≤}
+use Rattle.fractions.specs.Pair.{pair_ratio, pair_is_at_most}
+use Rattle.fractions.specs.Fraction.{ratio, is_at_most}
+use Rattle.almanac_orbit.proofs.Canonicals.{canonical_of}
+use Rattle.orbit_cases.proofs.records.published_yuma.Goals as goal
+
+pub returns-clause-accepted : goal.returns-clause-accepted
+unfolding ratio pair_ratio is_at_most pair_is_at_most
+returns-clause-accepted c = record {
+  prn = (lit≤ tt, lit≤ tt);
+  health = lit≤ tt;
+  eccentricity = record { canonical = canonical_of false 9608650696 12 (lit≤ tt) (lit≤ tt) (lit≤ tt) (lit≤ tt); at_least = record { le = tt }; at_most = record { le = tt } };
+  root = record { canonical = canonical_of false 5153599472 6 (lit≤ tt) (lit≤ tt) (lit≤ tt) (lit≤ tt); at_least = record { le = tt }; at_most = record { le = tt } };
+  angles = inl record { incl = record { canonical = canonical_of false 9393661061 10 (lit≤ tt) (lit≤ tt) (lit≤ tt) (lit≤ tt); at_least = record { le = tt }; at_most = record { le = tt } }; rate = record { canonical = canonical_of true 8186769583 18 (lit≤ tt) (lit≤ tt) (lit≤ tt) (lit≤ tt); at_least = record { le = tt }; at_most = record { le = tt } }; omega0 = record { canonical = canonical_of true 127509041 8 (lit≤ tt) (lit≤ tt) (lit≤ tt) (lit≤ tt); at_least = record { le = tt }; at_most = record { le = tt } }; perigee = record { canonical = canonical_of false 3097910679 9 (lit≤ tt) (lit≤ tt) (lit≤ tt) (lit≤ tt); at_least = record { le = tt }; at_most = record { le = tt } }; m0 = record { canonical = canonical_of true 2171226212 9 (lit≤ tt) (lit≤ tt) (lit≤ tt) (lit≤ tt); at_least = record { le = tt }; at_most = record { le = tt } } };
+}
