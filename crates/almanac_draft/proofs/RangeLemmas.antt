@@ -1,11 +1,14 @@
 -- The records of an accepted almanac are in their ranges, and apply to the flight.
-use Rattle.std.proofs.Common.{◌≡◌, ◌≢◌, ◌≤◌, ◌++◌, ℕ, suc, zero, List, [], ◌∷◌, length, map, Option, Some, None, Ok, unsigned_abs, refl, subst, arith, All, AllPairs, IsPermutation, IsSortedByKey}
+use Rattle.std.proofs.Common.{◌≡◌, ◌≢◌, ◌≤◌, ◌++◌, ℕ, suc, zero, false, List, [], ◌∷◌, length, map, Option, Some, None, Ok, unsigned_abs, refl, subst, arith, All, AllPairs, IsPermutation, IsSortedByKey}
+use lib.Dec.{lit≤}
 use Rattle.std.specs.Ordering.{nat_cmp}
 use Rattle.std.proofs.lemmas.List.Sorted.{All-permutation, length_permutation}
 use Rattle.raim_model.specs.declared.AlmRecord.{AlmRecord}
 use Rattle.raim_model.specs.declared.Span.{Span}
 use Rattle.raim_model.specs.Span.{IsFlight}
-use Rattle.raim_model.specs.AlmanacRanges.{AreRecords}
+use Rattle.raim_model.specs.Decimal.{decimal, IsCanonical}
+use Rattle.raim_model.specs.AlmanacRanges.{IsAlmRecord, AreRecords}
+use Rattle.almanac_fields.proofs.RangeLemmas.{AreNear}
 use Rattle.text_lines.specs.Lines.{Text}
 use Rattle.text_lines.proofs.FieldLemmas.{bind_then, ok_is}
 use Rattle.text_lines.proofs.Parts.{cons_same}
@@ -83,3 +86,18 @@ module _ {K : Type 0} (form : Form K) where
 
       long : length records ≡ length said
       long = length_permutation said records s.same
+
+pub canonical_zero : IsCanonical (decimal false 0 0)
+canonical_zero = record { few_digits = lit≤ tt; few_places = lit≤ tt; no_trailing_zero = λ h _. absurd (omega (arith, h)); one_zero = λ _. refl }
+
+-- the least square root of a semi-major axis
+pub canonical_least : IsCanonical (decimal false 4000 0)
+canonical_least = record { few_digits = lit≤ tt; few_places = lit≤ tt; no_trailing_zero = λ h _. absurd (omega (arith, h)); one_zero = λ h. absurd (omega (arith, h)) }
+
+-- a record that is in its ranges, with a time of applicability near the flight
+pub in_range : (flight : Span) (r : AlmRecord) → IsAlmRecord r → AreNear r.toa_ms flight.first × AreNear r.toa_ms flight.end → IsInRange flight r
+in_range flight r ranges near = record {
+  ranges = ranges;
+  at_first = record { not_before = near.0.0; not_after = near.0.1 };
+  at_end = record { not_before = near.1.0; not_after = near.1.1 };
+}

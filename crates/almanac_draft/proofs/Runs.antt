@@ -4,7 +4,7 @@ use Rattle.raim_model.specs.declared.TextWhy.{TextWhy}
 use Rattle.text_lines.specs.Lines.{Text}
 use Rattle.text_lines.proofs.FieldLemmas.{bind_then, ok_is}
 use Rattle.almanac_draft.specs.declared.begun.Begun.{Begun}
-use Rattle.almanac_draft.specs.Forms.{Form, IsForm, first_of, Follow, none_is, one_is}
+use Rattle.almanac_draft.specs.Forms.{Form, IsForm, first_of, Follow, none_is, one_is, made}
 use Rattle.almanac_draft.specs.Almanacs.{run}
 
 both_true : (a b : Bool) → (a && b) ≡ true → (a ≡ true) × (b ≡ true)
@@ -101,3 +101,7 @@ module _ {K : Type 0} (form : Form K) (first end : ℕ) where
       let p = bind_then (form.reads first end k c l) (λ n. run form first end ks n ls) d h in
       let b = both_true (not (form.names k)) (none_is form.names ks) none in
       lawful.keeps first end k c p.0 l (not_true (form.names k) b.0) p.1 ∙ run_keeps lawful ks p.0 d ls b.1 p.2
+
+-- a value that passes, and what it makes
+pub made_of : {A : Type 0} (make : A → Begun) (value : Result A TextWhy) (d : Begun) → made make value ≡ Ok d → (x : A) × (value ≡ Ok x) × (make x ≡ d)
+made_of make value d h = let p = bind_then value (λ x. Ok (make x)) d h in (p.0, p.1, ok_is (make p.0) d p.2)

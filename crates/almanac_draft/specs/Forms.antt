@@ -2,6 +2,7 @@
 use Rattle.std.specs.Prelude.{◌≡◌, ◌&&◌, ℕ, Bool, true, false, not, List, [], ◌∷◌, Option, Some, None, Result, Ok, if◌then◌else◌}
 use Rattle.raim_model.specs.declared.TextWhy.{TextWhy}
 use Rattle.text_lines.specs.Lines.{Text}
+use Rattle.text_lines.specs.Fields.{◌>>=◌}
 use Rattle.almanac_draft.specs.declared.begun.Begun.{Begun}
 
 -- kinds of lines: those of the whole almanac in their order, those of a record, and what a line of each kind says for a
@@ -49,3 +50,9 @@ pub record IsForm {K : Type 0} (form : Form K) : Type 0 where
   pub heads_name_none : none_is form.names form.heads ≡ true
   pub one_names : one_is form.names form.lines ≡ true
   pub keeps : (first end : ℕ) (k : K) (before after : Begun) (line : Text) → form.names k ≡ false → form.reads first end k before line ≡ Ok after → before.values.prn ≡ after.values.prn
+
+-- what a value makes of the record that has begun
+abbrev pub made : {A : Type 0} → (A → Begun) → Result A TextWhy → Result Begun TextWhy
+made begun_of value = do
+  x ← value
+  Ok (begun_of x)
