@@ -1,5 +1,5 @@
 -- What is an almanac is accepted.
-use Rattle.std.proofs.Common.{◌≡◌, ◌==◌, ◌⊎◌, ◌<◌, ◌≤◌, ◌+◌, ℕ, Bool, true, false, nat_lt, nat_le, List, [], ◌∷◌, ◌++◌, length, map, filter, Option, Some, None, Result, Ok, refl, sym, ap, ◌∙◌, subst, inl, inr, arith, append_assoc, append-nil, length-append, unsigned_abs, if◌then◌else◌}
+use Rattle.std.proofs.Common.{◌≡◌, ◌==◌, ◌⊎◌, ◌<◌, ℕ, Bool, true, false, nat_lt, nat_le, List, [], ◌∷◌, ◌++◌, length, map, filter, Option, Some, None, Result, Ok, refl, sym, ap, ◌∙◌, subst, inl, inr, arith, append_assoc, append-nil, length-append, unsigned_abs, if◌then◌else◌}
 use Rattle.std.specs.List.{list_any, flat_map}
 use Rattle.std.proofs.lemmas.Bool.Decides.{nat_tests}
 use Rattle.std.proofs.lemmas.List.Elements.{filter-append}
@@ -17,9 +17,9 @@ use Rattle.text_lines.proofs.Parts.{fronts_same, front_goes_on, open_part, none_
 use Rattle.text_lines.proofs.Rising.{none_before}
 use Rattle.text_lines.proofs.SomeReading.{accepted_or_refused}
 use Rattle.almanac_draft.specs.declared.begun.Begun.{Begun}
-use Rattle.almanac_draft.specs.Forms.{Form, IsForm, none_is}
+use Rattle.almanac_draft.specs.Forms.{Form, IsForm}
 use Rattle.almanac_draft.specs.Counts.{further, count_end, IsCount}
-use Rattle.almanac_draft.specs.Lines.{Said, said_behind, records_in, line_said, prn_said, words_entry_of, entry_of, end_of, almanac_lines, almanac_records}
+use Rattle.almanac_draft.specs.Lines.{Said, said_behind, records_in, prn_said, words_entry_of, entry_of, almanac_records}
 use Rattle.almanac_draft.specs.Almanacs.{run, record_at, IsAlmanac}
 use Rattle.almanac_draft.proofs.Runs.{none_at, none_behind, run_length, run_here, run_keeps}
 use Rattle.almanac_draft.proofs.Means.{Heads, Records, Sound, all_sound, means_records}

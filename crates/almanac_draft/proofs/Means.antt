@@ -22,7 +22,7 @@ use Rattle.text_lines.proofs.Parts.{cons_same}
 use Rattle.almanac_draft.specs.declared.begun.Begun.{Begun}
 use Rattle.almanac_draft.specs.Forms.{Form, IsForm, first_of, none_is}
 use Rattle.almanac_draft.specs.Counts.{further, count_end, IsCount}
-use Rattle.almanac_draft.specs.Lines.{Said, said_first, said_on, said_next, said_behind, records_in, with_record, prn_said, line_said, words_entry_of, entry_of, end_of, almanac_lines, almanac_records}
+use Rattle.almanac_draft.specs.Lines.{Said, said_first, said_on, said_next, said_behind, records_in, prn_said, line_said, words_entry_of, entry_of, end_of, almanac_lines, almanac_records}
 use Rattle.almanac_draft.specs.Almanacs.{run, record_at, IsAlmanac}
 use Rattle.almanac_draft.proofs.Runs.{follows, none_at, some_at, one_some, run_more}
 

@@ -1,7 +1,6 @@
 -- The records of an accepted almanac are in their ranges, and apply to the flight.
-use Rattle.std.proofs.Common.{◌≡◌, ◌≢◌, ◌≤◌, ◌++◌, ℕ, suc, zero, false, List, [], ◌∷◌, length, map, Option, Some, None, Ok, unsigned_abs, refl, subst, arith, All, AllPairs, IsPermutation, IsSortedByKey}
+use Rattle.std.proofs.Common.{◌≡◌, ◌≤◌, ◌++◌, ℕ, suc, zero, false, List, [], ◌∷◌, length, map, Option, Some, None, Ok, unsigned_abs, refl, subst, arith, All}
 use lib.Dec.{lit≤}
-use Rattle.std.specs.Ordering.{nat_cmp}
 use Rattle.std.proofs.lemmas.List.Sorted.{All-permutation, length_permutation}
 use Rattle.raim_model.specs.declared.AlmRecord.{AlmRecord}
 use Rattle.raim_model.specs.declared.Span.{Span}

@@ -1,5 +1,5 @@
 -- Lines that are read one behind the other.
-use Rattle.std.proofs.Common.{◌≡◌, ◌&&◌, ◌⊎◌, ℕ, Bool, true, false, not, List, [], ◌∷◌, ◌++◌, ◌+◌, length, Option, Some, None, Result, Ok, refl, sym, ap, ◌∙◌, subst, inl, inr, arith, if◌then◌else◌}
+use Rattle.std.proofs.Common.{◌≡◌, ◌&&◌, ◌⊎◌, ℕ, Bool, true, false, not, List, [], ◌∷◌, ◌++◌, length, Option, Result, Ok, refl, sym, ap, ◌∙◌, subst, inl, inr, arith, if◌then◌else◌}
 use Rattle.raim_model.specs.declared.TextWhy.{TextWhy}
 use Rattle.text_lines.specs.Lines.{Text}
 use Rattle.text_lines.proofs.FieldLemmas.{bind_then, ok_is}

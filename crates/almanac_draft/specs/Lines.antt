@@ -1,5 +1,5 @@
 -- What a line of an almanac says after those before it, or the first test that refuses it.
-use Rattle.std.specs.Prelude.{◌≡◌, ℕ, Bool, true, false, List, [], ◌∷◌, ◌++◌, Option, Some, None, Result, Ok, fold, length, nat_lt, unsigned_abs, if◌then◌else◌}
+use Rattle.std.specs.Prelude.{ℕ, Bool, true, false, List, [], ◌∷◌, ◌++◌, Option, Some, None, Result, Ok, fold, length, nat_lt, unsigned_abs, if◌then◌else◌}
 use Rattle.raim_model.specs.declared.TextWhy.{TextWhy}
 use Rattle.raim_model.specs.declared.TextWhy.TheVariants.{Short}
 use Rattle.raim_model.specs.declared.AlmRecord.{AlmRecord}

@@ -1,12 +1,11 @@
 -- The lines of a SEM almanac are in their order, and what passes is in its range.
-use Rattle.std.proofs.Common.{◌≡◌, ◌≤◌, ℕ, pos, neg_ℤ, Bool, true, false, List, [], ◌∷◌, Option, Some, None, Result, Ok, refl, ap, subst, inr, arith, unsigned_abs, nat_lt}
+use Rattle.std.proofs.Common.{◌≡◌, ◌≤◌, ℕ, pos, neg_ℤ, true, false, List, [], ◌∷◌, Ok, refl, ap, subst, inr, arith, unsigned_abs, nat_lt}
 use Rattle.fractions.specs.Fraction.{ratio, is_at_most, ◌≤ᶠ◌}
 use Rattle.fractions.specs.Pair.{pair_ratio, pair_is_at_most}
 use Rattle.fractions.proofs.Ratios.{ratio-same}
 use Rattle.raim_model.specs.declared.TextWhy.TheVariants as why
 use Rattle.raim_model.specs.declared.AlmRecord.{AlmRecord}
 use Rattle.raim_model.specs.declared.Angle.{Angle}
-use Rattle.raim_model.specs.declared.Angle.TheVariants.{Semi, Semi30}
 use Rattle.raim_model.specs.declared.Dec.{Dec}
 use Rattle.raim_model.specs.declared.Span.{Span}
 use Rattle.raim_model.specs.Span.{IsFlight}
@@ -29,7 +28,7 @@ use Rattle.almanac_draft.proofs.Runs.{made_of}
 use Rattle.almanac_draft.proofs.RangeLemmas.{run_holds, run_last, canonical_zero, canonical_least, in_range}
 use Rattle.sem_text.specs.declared.line.SemLine.{SemLine}
 use Rattle.sem_text.specs.declared.line.SemLine.TheVariants.{Count, WeekAndTime, Prn, Svn, Ura, EccentricityInclinationRate, SqrtARightAscensionPerigee, MeanAnomalyAndClock, Health, Configuration}
-use Rattle.sem_text.specs.Lines.{is_prn, zero as no_dec, nothing, first_word_of, count_of, week_and_time_of, time_of_applicability_of, prn_of, unused_of, three_decimals_of, decimals_in, angle_of, eccentricity_inclination_rate_of, sqrt_a_right_ascension_perigee_of, mean_anomaly_and_clock_of, health_of, line_said}
+use Rattle.sem_text.specs.Lines.{is_prn, zero as no_dec, nothing, first_word_of, count_of, week_and_time_of, time_of_applicability_of, prn_of, three_decimals_of, decimals_in, angle_of, eccentricity_inclination_rate_of, sqrt_a_right_ascension_perigee_of, mean_anomaly_and_clock_of, health_of, line_said}
 use Rattle.sem_text.specs.Sem.{sem_form}
 
 -- a decimal between two others

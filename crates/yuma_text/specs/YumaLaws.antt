@@ -1,16 +1,14 @@
 -- The lines of a YUMA record are in their order, and what passes is in its range.
-use Rattle.std.proofs.Common.{◌≡◌, ◌⊎◌, ◌≤◌, ℕ, Bool, true, false, not, List, [], ◌∷◌, Option, Some, None, Result, Ok, refl, sym, ap, ◌∙◌, subst, inl, inr, arith, unsigned_abs, if◌then◌else◌}
+use Rattle.std.proofs.Common.{◌≡◌, ◌⊎◌, ◌≤◌, ℕ, Bool, true, false, not, List, [], ◌∷◌, Ok, refl, ap, subst, inl, inr, arith, unsigned_abs, if◌then◌else◌}
 use Rattle.fractions.specs.Fraction.{ratio, is_at_most}
 use Rattle.fractions.specs.Pair.{pair_ratio, pair_is_at_most}
-use Rattle.raim_model.specs.declared.TextWhy.{TextWhy}
 use Rattle.raim_model.specs.declared.TextWhy.TheVariants.{Label, Number}
 use Rattle.raim_model.specs.declared.AlmRecord.{AlmRecord}
 use Rattle.raim_model.specs.declared.Angle.{Angle}
-use Rattle.raim_model.specs.declared.Angle.TheVariants.{Rad}
 use Rattle.raim_model.specs.declared.Dec.{Dec}
 use Rattle.raim_model.specs.declared.Span.{Span}
 use Rattle.raim_model.specs.Span.{IsFlight}
-use Rattle.raim_model.specs.Decimal.{decimal, value_of, IsCanonical}
+use Rattle.raim_model.specs.Decimal.{decimal, value_of}
 use Rattle.raim_model.specs.Ranges.{IsDecimalBetween}
 use Rattle.raim_model.specs.AlmanacRanges.{IsRadians, IsAlmRecord}
 use Rattle.text_lines.specs.Lines.{Text}
@@ -22,14 +20,14 @@ use Rattle.dec_text.proofs.Within.{between_within}
 use Rattle.almanac_fields.specs.Times.{toa_of}
 use Rattle.almanac_fields.proofs.RangeLemmas.{whole_within, toa_near, AreNear}
 use Rattle.almanac_draft.specs.declared.Begun.{Begun}
-use Rattle.almanac_draft.specs.Forms.{IsForm, made}
+use Rattle.almanac_draft.specs.Forms.{IsForm}
 use Rattle.almanac_draft.specs.Almanacs.{run}
 use Rattle.almanac_draft.specs.Ranges.{IsRanged, SaysSome}
 use Rattle.almanac_draft.proofs.Runs.{made_of}
 use Rattle.almanac_draft.proofs.RangeLemmas.{run_holds, run_last, canonical_zero, canonical_least, in_range}
 use Rattle.yuma_text.specs.declared.line.YumaLine.{YumaLine}
 use Rattle.yuma_text.specs.declared.line.YumaLine.TheVariants.{Title, Prn, Health, Eccentricity, TimeInWeek, Inclination, RateOfRightAscension, SqrtA, RightAscension, ArgumentOfPerigee, MeanAnomaly, Af0, Af1, Week}
-use Rattle.yuma_text.specs.Lines.{label_of, is_title, is_prn, zero as no_dec, nothing, begins_with_star, title_of, decimal_value, eccentricity_of, inclination_of, rate_of, sqrt_a_of, angle_of, value_said, line_said, week_of, with}
+use Rattle.yuma_text.specs.Lines.{label_of, is_title, is_prn, zero as no_dec, nothing, begins_with_star, title_of, decimal_value, eccentricity_of, inclination_of, rate_of, sqrt_a_of, angle_of, value_said, line_said, week_of}
 use Rattle.yuma_text.specs.Yuma.{yuma_form}
 
 -- a decimal between two others

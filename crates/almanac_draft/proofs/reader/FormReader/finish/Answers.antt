@@ -1,5 +1,4 @@
-use Rattle.text_lines.specs.Readers.{Means}
-use Rattle.almanac_draft.specs.Drafts.{format_of, AreSaid}
+use Rattle.almanac_draft.specs.Drafts.{format_of}
 use Rattle.almanac_draft.proofs.RangeLemmas.{are_ranged}
 use Rattle.almanac_draft.proofs.ReaderLemmas.{said_of}
 use Rattle.almanac_draft.proofs.reader.FormReader.finish.Goals as goal
