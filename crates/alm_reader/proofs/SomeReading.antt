@@ -5,8 +5,11 @@ use Rattle.raim_model.specs.declared.Span.{Span}
 use Rattle.raim_model.specs.declared.TextWhy.{TextWhy}
 use Rattle.raim_model.specs.declared.TextWhy.TheVariants.{Short, TooMany}
 use Rattle.text_lines.specs.Lines.{Text}
-use Rattle.yuma_text.proofs.OneReading.{says_or_refuses as says_or_refuses_yuma, says_once as says_once_yuma}
-use Rattle.sem_text.proofs.OneReading.{says_or_refuses as says_or_refuses_sem, says_once as says_once_sem}
+use Rattle.almanac_draft.proofs.OneReading.{says_or_refuses, says_once}
+use Rattle.yuma_text.specs.Yuma.{yuma_form}
+use Rattle.yuma_text.specs.YumaLaws.{yuma_is_form}
+use Rattle.sem_text.specs.Sem.{sem_form}
+use Rattle.sem_text.specs.SemLaws.{sem_is_form}
 use Rattle.alm_reader.specs.declared.choice.Choice.{Choice}
 use Rattle.alm_reader.specs.declared.choice.Choice.TheVariants.{Yuma, Sem}
 use Rattle.alm_reader.specs.Choices.{choice_of}
@@ -21,13 +24,13 @@ module _ (span : Span) where
 
   section_some : (choice : Option Choice) (lines : List Text) → Settled choice lines
   section_some None lines = inr (0, Short, (refl, refl))
-  section_some (Some Yuma) lines = says_or_refuses_yuma span lines
-  section_some (Some Sem) lines = says_or_refuses_sem span lines
+  section_some (Some Yuma) lines = says_or_refuses yuma_form span lines
+  section_some (Some Sem) lines = says_or_refuses sem_form span lines
 
   section_one : (choice : Option Choice) (lines : List Text) (some other : List AlmRecord) → SayBy choice span lines some → SayBy choice span lines other → some ≡ other
   section_one None lines some other s t = absurd s
-  section_one (Some Yuma) lines some other s t = says_once_yuma span lines some other s t
-  section_one (Some Sem) lines some other s t = says_once_sem span lines some other s t
+  section_one (Some Yuma) lines some other s t = says_once yuma_form yuma_is_form span lines some other s t
+  section_one (Some Sem) lines some other s t = says_once sem_form sem_is_form span lines some other s t
 
   each_one : (sections : List (List Text)) (some other : List (List AlmRecord)) → SayEach span sections some → SayEach span sections other → some ≡ other
   each_one [] [] [] s t = refl

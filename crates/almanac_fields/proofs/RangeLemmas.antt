@@ -1,20 +1,16 @@
 -- What the tests of a record make sure of.
-use Rattle.std.proofs.Common.{◌≡◌, ◌≢◌, ◌≤◌, ◌+◌, ◌*◌, ◌/◌, ◌||◌, ℕ, ℤ, pos, unsigned_abs, ◌+ℤ◌, ◌≤ℤ◌, negsuc, Bool, true, false, nat_lt, List, length, Ok, refl, subst, arith, All, AllPairs, IsPermutation, IsSortedByKey}
-use Rattle.std.specs.Ordering.{nat_cmp}
+use Rattle.std.proofs.Common.{◌≡◌, ◌≤◌, ◌+◌, ◌*◌, ◌/◌, ◌||◌, ℕ, ℤ, pos, unsigned_abs, ◌+ℤ◌, ◌≤ℤ◌, negsuc, Bool, true, false, nat_lt, Ok, refl, subst, arith}
 use Rattle.std.proofs.lemmas.Bool.Decides.{nat_tests}
 use Rattle.std.proofs.lemmas.Int.{ints}
-use Rattle.std.proofs.lemmas.List.Sorted.{All-permutation, length_permutation}
 use Rattle.raim_model.specs.declared.TextWhy.TheVariants.{Range}
-use Rattle.raim_model.specs.declared.AlmRecord.{AlmRecord}
 use Rattle.raim_model.specs.declared.Span.{Span}
 use Rattle.raim_model.specs.Constants.{week_ms}
 use Rattle.raim_model.specs.Span.{IsFlight}
-use Rattle.raim_model.specs.AlmanacRanges.{IsAlmRecord, IsApplicable, AreRecords, ninety_days}
+use Rattle.raim_model.specs.AlmanacRanges.{ninety_days}
 use Rattle.gps_week.specs.Weeks.{full_week_of}
 use Rattle.text_lines.specs.Lines.{Text}
 use Rattle.text_lines.specs.Fields.{unless, any_whole, in_range, whole_in}
 use Rattle.text_lines.proofs.FieldLemmas.{bind_then}
-use Rattle.text_lines.proofs.Rising.{rises}
 use Rattle.almanac_fields.specs.Times.{toa_of, is_far}
 
 tests_pass : {X : Type 0} (a b : Bool) (x y : X) → unless (a || b) Range (Ok x) ≡ Ok y → (a ≡ false) × (b ≡ false) × (x ≡ y)
@@ -70,24 +66,3 @@ toa_near flight time week x f h =
     abs_pos : (z : ℤ) → pos 0 ≤ℤ z → pos (unsigned_abs z) ≡ z
     abs_pos (pos n) h = refl
     abs_pos (negsuc n) h = absurd (omega (arith, ints, h))
-
--- a record is in its ranges, and applies to the flight
-pub record IsInRange (flight : Span) (rec : AlmRecord) : Type 0 where
-  pub ranges : IsAlmRecord rec
-  pub at_first : IsApplicable rec flight.first
-  pub at_end : IsApplicable rec flight.end
-
--- the records of an accepted almanac, by rising PRN
-pub are_records : (flight : Span) (said records : List AlmRecord) → 1 ≤ length said → length said ≤ 32 → All (IsInRange flight) said
-    → AllPairs (λ before after. before.prn ≢ after.prn) said → IsPermutation said records → IsSortedByKey (λ r. r.prn) nat_cmp records → AreRecords flight records
-are_records flight said records some few each differ same sorted =
-    let all = All-permutation (IsInRange flight) said records same each in
-    let long : length records ≡ length said = length_permutation said records same in
-    record {
-      some = rw long some;
-      few = rw long few;
-      each = λ k d below. (all k d below).ranges;
-      rising = rises (λ (r : AlmRecord). r.prn) said records same differ sorted;
-      at_first = λ k d below. (all k d below).at_first;
-      at_end = λ k d below. (all k d below).at_end;
-    }

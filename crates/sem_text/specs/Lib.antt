@@ -1,7 +1,3 @@
-pub mod LineKinds
+pub mod Lines
 pub mod Sem
-pub mod Drafts
-pub mod Answers
-pub mod Readers
-pub mod Almanac
-pub mod Laws
+pub mod SemLaws

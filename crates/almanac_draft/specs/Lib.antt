@@ -1,0 +1,9 @@
+pub mod Forms
+pub mod Counts
+pub mod Lines
+pub mod Drafts
+pub mod Answers
+pub mod Readers
+pub mod Almanacs
+pub mod Ranges
+pub mod Laws
