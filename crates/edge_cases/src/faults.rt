@@ -1,6 +1,8 @@
 // Calls of the desk and of the output that fail, each in turn, and how many bytes a call moves.
 
-use crate::over::{CHART, Calls, FLEET, Left, PREDICT, SURE, Texts, Top, run_with, texts_of, vertical_words};
+use crate::over::{
+    CHART, Calls, FLEET, Left, PREDICT, SURE, Texts, Top, run_with, texts_of, vertical_words,
+};
 use flight_samples::*;
 use raim_model::FileNo;
 use std::alloc::Global;
@@ -19,12 +21,7 @@ struct Run<'a> {
     writes: u64,
 }
 
-fn run_failing(
-    alloc: Global,
-    run: Run,
-    reads: &[u64],
-    writes: &[u64],
-) -> Result<Left, Fail> {
+fn run_failing(alloc: Global, run: Run, reads: &[u64], writes: &[u64]) -> Result<Left, Fail> {
     let reads = Calls {
         chunk: 64,
         fails: reads,

@@ -93,19 +93,49 @@ fn each_file_is_refused_at_its_line(rt: HostRuntime) -> Result<(), Fail> {
     let rows: [(FileNo, &str, u32, TextWhy); 21] = [
         (FileNo::Limits, "", 0, TextWhy::Missing),
         (FileNo::Limits, "bias 6 5\n", 1, TextWhy::BiasGap),
-        (FileNo::Limits, "mask 5\nalert approach\nbias 5 1\n\n", 3, TextWhy::Missing),
+        (
+            FileNo::Limits,
+            "mask 5\nalert approach\nbias 5 1\n\n",
+            3,
+            TextWhy::Missing,
+        ),
         (FileNo::Limits, "leap 18 18\n", 1, TextWhy::Word),
-        (FileNo::Limits, "leap 18\nmask 5\nmask 5\n", 3, TextWhy::Twice),
+        (
+            FileNo::Limits,
+            "leap 18\nmask 5\nmask 5\n",
+            3,
+            TextWhy::Twice,
+        ),
         (FileNo::Limits, "alert 0\n", 1, TextWhy::Range),
         (FileNo::Limits, "mask x\n", 1, TextWhy::Number),
         (FileNo::Route, "", 0, TextWhy::TooFew),
-        (FileNo::Route, "2024-10-27T06:00:00.000Z 0 0 0\n", 1, TextWhy::TooFew),
+        (
+            FileNo::Route,
+            "2024-10-27T06:00:00.000Z 0 0 0\n",
+            1,
+            TextWhy::TooFew,
+        ),
         (FileNo::Route, one_time, 2, TextWhy::NotRising),
         (FileNo::Route, a_day_more, 2, TextWhy::TooLong),
-        (FileNo::Route, "2024-02-30T06:00:00.000Z 0 0 0\n", 1, TextWhy::Time),
-        (FileNo::Route, "2024-10-27T06:00:00.000Z 91 0 0\n", 1, TextWhy::Range),
+        (
+            FileNo::Route,
+            "2024-02-30T06:00:00.000Z 0 0 0\n",
+            1,
+            TextWhy::Time,
+        ),
+        (
+            FileNo::Route,
+            "2024-10-27T06:00:00.000Z 91 0 0\n",
+            1,
+            TextWhy::Range,
+        ),
         (FileNo::Outages, "7\n", 1, TextWhy::Word),
-        (FileNo::Outages, "33 2024-10-27T05:30:00.000Z -\n", 1, TextWhy::Range),
+        (
+            FileNo::Outages,
+            "33 2024-10-27T05:30:00.000Z -\n",
+            1,
+            TextWhy::Range,
+        ),
         (FileNo::Outages, empty_span, 2, TextWhy::EmptySpan),
         (FileNo::Almanac, "", 0, TextWhy::Short),
         (FileNo::Almanac, "\r\r\n* title\n", 1, TextWhy::Label),
@@ -119,10 +149,22 @@ fn each_file_is_refused_at_its_line(rt: HostRuntime) -> Result<(), Fail> {
         let all = six_hours(TWO_SATELLITES);
         let bytes = text.as_bytes();
         let texts = match file {
-            FileNo::Limits => Texts { limits: bytes, ..all },
-            FileNo::Almanac => Texts { almanac: bytes, ..all },
-            FileNo::Outages => Texts { outages: bytes, ..all },
-            FileNo::Route => Texts { route: bytes, ..all },
+            FileNo::Limits => Texts {
+                limits: bytes,
+                ..all
+            },
+            FileNo::Almanac => Texts {
+                almanac: bytes,
+                ..all
+            },
+            FileNo::Outages => Texts {
+                outages: bytes,
+                ..all
+            },
+            FileNo::Route => Texts {
+                route: bytes,
+                ..all
+            },
         };
         expect_stop(&rt, alloc, texts, Some(Stop::Refused { file, line, why }))?;
     }
@@ -153,7 +195,14 @@ fn the_first_file_that_is_not_read_stops_the_reading(rt: HostRuntime) -> Result<
     let rows: [(Texts, Option<Stop>); 7] = [
         (bad, refused(FileNo::Limits)),
         (Texts { limits, ..bad }, refused(FileNo::Route)),
-        (Texts { limits, route, ..bad }, refused(FileNo::Outages)),
+        (
+            Texts {
+                limits,
+                route,
+                ..bad
+            },
+            refused(FileNo::Outages),
+        ),
         // No outages are outages.
         (Texts { outages, ..all }, None),
         (all, None),

@@ -39,7 +39,14 @@ fn each_route_has_a_block(rt: HostRuntime) -> Result<(), Fail> {
     ];
     for (limits, almanac, routes, blocks) in rows {
         let all = texts_of(limits, almanac, "", routes);
-        expect(&rt, alloc, Top::Fleet, &FLEET, all, (0, blocks.as_bytes(), ""))?;
+        expect(
+            &rt,
+            alloc,
+            Top::Fleet,
+            &FLEET,
+            all,
+            (0, blocks.as_bytes(), ""),
+        )?;
     }
     Ok(())
 }
@@ -105,7 +112,14 @@ fn of_64_routes_each_third_is_refused(rt: HostRuntime) -> Result<(), Fail> {
     let five = sem_almanac(alloc, "2338", &FIVE)?;
     let (mut routes, blocks) = sixty_four(alloc)?;
     let all = texts_of(MILD, five.as_str(), "", routes.as_str());
-    expect(&rt, alloc, Top::Fleet, &FLEET, all, (0, blocks.as_bytes(), ""))?;
+    expect(
+        &rt,
+        alloc,
+        Top::Fleet,
+        &FLEET,
+        all,
+        (0, blocks.as_bytes(), ""),
+    )?;
     routes.push_str("---")?;
     let more = texts_of(MILD, five.as_str(), "", routes.as_str());
     let note = "raim: route line 177: TooMany\n";

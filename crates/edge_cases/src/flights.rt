@@ -1,6 +1,6 @@
 // Flights of a second, of minutes and of demonstrations, and what is said of them.
 
-use crate::over::{PREDICT, Texts, Top, expect, run_with, texts_of, SURE};
+use crate::over::{PREDICT, SURE, Texts, Top, expect, run_with, texts_of};
 use demo_texts::demo_files;
 use flight_samples::*;
 use std::alloc::Global;
@@ -61,13 +61,15 @@ fn four(alloc: Global) -> Result<String, Fail> {
     Ok(almanac)
 }
 
-fn expect_report(
-    rt: &impl Abort,
-    alloc: Global,
-    texts: Texts,
-    report: &str,
-) -> Result<(), Fail> {
-    expect(rt, alloc, Top::Flight, &PREDICT, texts, (0, report.as_bytes(), ""))
+fn expect_report(rt: &impl Abort, alloc: Global, texts: Texts, report: &str) -> Result<(), Fail> {
+    expect(
+        rt,
+        alloc,
+        Top::Flight,
+        &PREDICT,
+        texts,
+        (0, report.as_bytes(), ""),
+    )
 }
 
 #[test]
@@ -114,7 +116,12 @@ fn small_flights_have_their_reports(rt: HostRuntime) -> Result<(), Fail> {
         (MILD, of.handover.as_str(), "", middle, handed_over),
     ];
     for (limits, almanac, outages, route, report) in rows {
-        expect_report(&rt, alloc, texts_of(limits, almanac, outages, route), report)?;
+        expect_report(
+            &rt,
+            alloc,
+            texts_of(limits, almanac, outages, route),
+            report,
+        )?;
     }
     Ok(())
 }
@@ -133,15 +140,15 @@ fn next_end<'a>(line: &'a str, from: &str) -> Option<&'a str> {
 }
 
 /// Whether the lines of a report follow one another between two times.
-fn partition(report: &str, from: &str, to: &str) -> bool {
-    let mut at = from;
+fn partition(alloc: Global, report: &str, from: &str, to: &str) -> Result<bool, Fail> {
+    let mut at = String::from_str(alloc, from)?;
     for line in report.lines() {
-        let Some(end) = next_end(line, at) else {
-            return false;
+        let Some(end) = next_end(line, at.as_str()) else {
+            return Ok(false);
         };
-        at = end;
+        at = String::from_str(alloc, end)?;
     }
-    at == to
+    Ok(at.as_str() == to)
 }
 
 #[test]
@@ -158,14 +165,10 @@ fn a_whole_constellation_is_judged(rt: HostRuntime) -> Result<(), Fail> {
     assert_eq!(rt; left.number, 0);
     let report = String::from_utf8_lossy(alloc, &left.out)?;
     let report = report.as_str();
-    assert!(rt;
-        partition(
-            report,
-            "2024-10-27T06:00:00.000Z",
-            "2024-10-27T06:11:00.000Z"
-        ),
-        "{report}"
-    );
+    let from = "2024-10-27T06:00:00.000Z";
+    let to = "2024-10-27T06:11:00.000Z";
+    let follow = partition(alloc, report, from, to)?;
+    assert!(rt; follow, "{report}");
     Ok(())
 }
 
@@ -178,20 +181,20 @@ fn expect_of_demonstration(
     route: Option<&str>,
     wanted: (u8, &str, &str),
 ) -> Result<(), Fail> {
-    let Ok(files) = demo_files(alloc, number) else {
+    let Ok(mut files) = demo_files(alloc, number) else {
         return Err(Fail::from("no memory"));
     };
+    if let Some(text) = limits {
+        files.limits = text.as_bytes().to_vec(alloc)?;
+    }
+    if let Some(text) = route {
+        files.route = text.as_bytes().to_vec(alloc)?;
+    }
     let all = Texts {
-        limits: match limits {
-            Some(text) => text.as_bytes(),
-            None => &files.limits,
-        },
+        limits: &files.limits,
         almanac: &files.almanac,
         outages: b"",
-        route: match route {
-            Some(text) => text.as_bytes(),
-            None => &files.route,
-        },
+        route: &files.route,
     };
     let (status, report, note) = wanted;
     let left = run_with(Top::Flight, alloc, &PREDICT, all, SURE, SURE)?;
@@ -227,8 +230,7 @@ fn the_texts_of_demonstrations_are_judged(rt: HostRuntime) -> Result<(), Fail> {
 #[test]
 fn demonstrations_say_their_totals(rt: HostRuntime) -> Result<(), Fail> {
     let alloc = rt.alloc();
-    let of_one =
-        "demo 1 satellites 24 intervals 1 available 600000 unavailable 0 undecided 0\n";
+    let of_one = "demo 1 satellites 24 intervals 1 available 600000 unavailable 0 undecided 0\n";
     let rows: [(&str, &str); 5] = [
         (
             "345",

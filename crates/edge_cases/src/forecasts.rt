@@ -11,7 +11,6 @@ use raim_model::{FileNo, Run, TextWhy, Verdict, Why};
 use raim_run::{Status, predict_texts};
 use std::alloc::Global;
 use std::marker::Brand;
-use std::process::Abort;
 use std::sync::ledger::{Blank, Ledger};
 use std::test::Fail;
 use step_counter::Steps;
@@ -64,28 +63,32 @@ fn forecast_of(
     forecast_counted::<Brand>(alloc, desk, is_vertical, Blank::new(1))
 }
 
-/// Fails unless the second has these runs, or none for this cause.
-fn expect_forecast(
-    rt: &impl Abort,
-    alloc: Global,
-    texts: Texts,
-    is_vertical: bool,
-    wanted: Result<&[(i64, i64, Verdict)], NoForecast>,
-) -> Result<(), Fail> {
+/// The runs of four texts.
+fn runs_of(alloc: Global, texts: Texts, is_vertical: bool) -> Result<Vec<Run>, Fail> {
     let mut desk = desk_of(alloc, texts, SURE)?;
-    match (forecast_of(alloc, &mut desk, is_vertical), wanted) {
-        (Some(Ok(runs)), Ok(wanted)) => {
-            assert_eq!(rt; runs.len(), wanted.len());
-            for (run, (first, end, verdict)) in runs.iter().zip(wanted.iter()) {
-                assert_eq!(rt; run.first.wrapping_sub(START), *first);
-                assert_eq!(rt; run.end.wrapping_sub(START), *end);
-                assert_eq!(rt; run.verdict, *verdict);
-            }
-        }
-        (Some(Err(stop)), Err(wanted)) => assert_eq!(rt; stop, wanted),
-        _ => return Err(Fail::from("another answer")),
+    match forecast_of(alloc, &mut desk, is_vertical) {
+        Some(Ok(runs)) => Ok(runs),
+        _ => Err(Fail::from("no runs")),
     }
-    Ok(())
+}
+
+/// Why four texts have no runs.
+fn stop_of(alloc: Global, texts: Texts) -> Result<NoForecast, Fail> {
+    let mut desk = desk_of(alloc, texts, SURE)?;
+    match forecast_of(alloc, &mut desk, false) {
+        Some(Err(stop)) => Ok(stop),
+        _ => Err(Fail::from("judged")),
+    }
+}
+
+/// Whether these are the runs: each its first millisecond and its end within the second, and its verdict.
+fn are_runs(runs: &[Run], expected: &[(i64, i64, Verdict)]) -> bool {
+    runs.len() == expected.len()
+        && runs.iter().zip(expected.iter()).all(|(run, one)| {
+            run.first.wrapping_sub(START) == one.0
+                && run.end.wrapping_sub(START) == one.1
+                && run.verdict == one.2
+        })
 }
 
 #[test]
@@ -104,17 +107,17 @@ fn a_second_has_its_forecasts(rt: HostRuntime) -> Result<(), Fail> {
     ];
     let available = [(0, 1000, Verdict::Available)];
     let steep = [(0, 1000, Verdict::Unavailable(Why::Slope))];
-    let overflow = NoForecast::Overflow { at: START, prn: 1 };
-    let rows: [(&str, &str, bool, Result<&[(i64, i64, Verdict)], NoForecast>); 4] = [
-        (mild, OUTAGE, false, Ok(&three)),
-        (thin, "", true, Ok(&available)),
-        (thin, "", false, Ok(&steep)),
-        (steepest, "", false, Err(overflow)),
+    let rows: [(&str, &str, bool, &[(i64, i64, Verdict)]); 3] = [
+        (mild, OUTAGE, false, &three),
+        (thin, "", true, &available),
+        (thin, "", false, &steep),
     ];
-    for (limits, outages, is_vertical, wanted) in rows {
-        let all = texts_of(limits, five, outages, SECOND);
-        expect_forecast(&rt, alloc, all, is_vertical, wanted)?;
+    for (limits, outages, is_vertical, expected) in rows {
+        let runs = runs_of(alloc, texts_of(limits, five, outages, SECOND), is_vertical)?;
+        assert!(rt; are_runs(&runs, expected), "{runs:?}");
     }
+    let stop = stop_of(alloc, texts_of(steepest, five, "", SECOND))?;
+    assert_eq!(rt; stop, NoForecast::Overflow { at: START, prn: 1 });
     Ok(())
 }
 
@@ -154,9 +157,27 @@ fn four_texts_are_predicted_or_refused(rt: HostRuntime) -> Result<(), Fail> {
         prn: 1,
     };
     let rows: [(&str, &str, &str, &str, Status); 4] = [
-        (MILD, five, OUTAGE, "x\n", refused(FileNo::Route, 1, TextWhy::Word)),
-        ("", five, OUTAGE, "", refused(FileNo::Limits, 0, TextWhy::Missing)),
-        (MILD, "", "x", SECOND, refused(FileNo::Outages, 1, TextWhy::Word)),
+        (
+            MILD,
+            five,
+            OUTAGE,
+            "x\n",
+            refused(FileNo::Route, 1, TextWhy::Word),
+        ),
+        (
+            "",
+            five,
+            OUTAGE,
+            "",
+            refused(FileNo::Limits, 0, TextWhy::Missing),
+        ),
+        (
+            MILD,
+            "",
+            "x",
+            SECOND,
+            refused(FileNo::Outages, 1, TextWhy::Word),
+        ),
         (OVERFLOWING, five, OUTAGE, SECOND, overflow),
     ];
     for (limits, almanac, outages, route, status) in rows {

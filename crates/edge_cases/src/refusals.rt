@@ -2,8 +2,8 @@
 
 use crate::over::{PREDICT, SURE, Texts, Top, expect, run_with, texts_of};
 use flight_samples::*;
-use std::process::Abort;
 use std::alloc::Global;
+use std::process::Abort;
 use std::test::Fail;
 use text_lines::LONGEST_FILE;
 
@@ -24,20 +24,80 @@ fn the_first_file_that_is_refused_is_named(rt: HostRuntime) -> Result<(), Fail> 
     // Limits, almanac, outages, route; the note.
     let rows: [(&str, &str, &str, &str, &str); 15] = [
         ("", five, OUTAGE, bad, "raim: limits line 0: Missing\n"),
-        ("leap 18 18\n", five, OUTAGE, SECOND, "raim: limits line 1: Word\n"),
-        (carriage, five, OUTAGE, SECOND, "raim: limits line 5: Word\n"),
+        (
+            "leap 18 18\n",
+            five,
+            OUTAGE,
+            SECOND,
+            "raim: limits line 1: Word\n",
+        ),
+        (
+            carriage,
+            five,
+            OUTAGE,
+            SECOND,
+            "raim: limits line 5: Word\n",
+        ),
         (MILD, five, bad, one_point, "raim: route line 1: TooFew\n"),
-        (MILD, five, OUTAGE, one_time, "raim: route line 2: NotRising\n"),
-        (MILD, five, OUTAGE, a_day_more, "raim: route line 2: TooLong\n"),
+        (
+            MILD,
+            five,
+            OUTAGE,
+            one_time,
+            "raim: route line 2: NotRising\n",
+        ),
+        (
+            MILD,
+            five,
+            OUTAGE,
+            a_day_more,
+            "raim: route line 2: TooLong\n",
+        ),
         (MILD, bad, bad, SECOND, "raim: outages line 1: Word\n"),
         (MILD, "", OUTAGE, SECOND, "raim: almanac line 0: Short\n"),
-        (MILD, " \r\n\n", OUTAGE, SECOND, "raim: almanac line 0: Short\n"),
-        (MILD, "* week\n", OUTAGE, SECOND, "raim: almanac line 1: Short\n"),
-        (MILD, "5 FIVE\n2338 0\n", OUTAGE, SECOND, "raim: almanac line 2: CountDiffers 5 0\n"),
-        (MILD, nine, OUTAGE, SECOND, "raim: almanac line 344: TooMany\n"),
+        (
+            MILD,
+            " \r\n\n",
+            OUTAGE,
+            SECOND,
+            "raim: almanac line 0: Short\n",
+        ),
+        (
+            MILD,
+            "* week\n",
+            OUTAGE,
+            SECOND,
+            "raim: almanac line 1: Short\n",
+        ),
+        (
+            MILD,
+            "5 FIVE\n2338 0\n",
+            OUTAGE,
+            SECOND,
+            "raim: almanac line 2: CountDiffers 5 0\n",
+        ),
+        (
+            MILD,
+            nine,
+            OUTAGE,
+            SECOND,
+            "raim: almanac line 344: TooMany\n",
+        ),
         // Ninety-one days and more before the flight, and an eccentricity that no almanac has.
-        (MILD, "2 TWO\n2324 0\n", OUTAGE, SECOND, "raim: almanac line 2: Range\n"),
-        (MILD, eccentric, OUTAGE, SECOND, "raim: almanac line 6: Range\n"),
+        (
+            MILD,
+            "2 TWO\n2324 0\n",
+            OUTAGE,
+            SECOND,
+            "raim: almanac line 2: Range\n",
+        ),
+        (
+            MILD,
+            eccentric,
+            OUTAGE,
+            SECOND,
+            "raim: almanac line 6: Range\n",
+        ),
         (OVERFLOWING, five, OUTAGE, bad, "raim: route line 1: Word\n"),
     ];
     for (limits, almanac, outages, route, note) in rows {
@@ -89,7 +149,14 @@ fn a_file_has_1048576_bytes_at_most(rt: HostRuntime) -> Result<(), Fail> {
         (MILD, b'\n', LONGEST_FILE + 1, (2, "", too_long), 258),
         ("", b'a', LONGEST_FILE, (2, "", word), 258),
     ] {
-        expect_of_long_limits(&rt, alloc, (text, byte, length), five.as_str(), wanted, calls)?;
+        expect_of_long_limits(
+            &rt,
+            alloc,
+            (text, byte, length),
+            five.as_str(),
+            wanted,
+            calls,
+        )?;
     }
     Ok(())
 }

@@ -26,7 +26,14 @@ fn expect_usage(
         chunk: 64,
         fails: &[1],
     };
-    let left = run_with(top, alloc, words, texts_of(MILD, "", "", SECOND), reads, SURE)?;
+    let left = run_with(
+        top,
+        alloc,
+        words,
+        texts_of(MILD, "", "", SECOND),
+        reads,
+        SURE,
+    )?;
     assert_eq!(rt; left.number, 1, "{words:?}");
     assert_eq!(rt; left.calls, 0);
     assert_eq!(rt; left.out.len(), 0);
@@ -41,7 +48,9 @@ const OTHER_FLIGHT: [&[&str]; 19] = [
     &["raim", "predict"],
     &["raim", "predict", "A", "B"],
     &["raim", "predict", "limits", "almanac", "outages"],
-    &["raim", "predict", "limits", "almanac", "outages", "route", "route"],
+    &[
+        "raim", "predict", "limits", "almanac", "outages", "route", "route",
+    ],
     &["raim", "predict", "limits", "almanac", "outages", "-route"],
     &["raim", "predict", "--help", "almanac", "outages", "route"],
     &["raim", "predict", "limits", "almanac", "-h", "route"],
@@ -78,11 +87,7 @@ const OTHER_FLEET: [&[&str]; 3] = [
     &["a", "b", "c", "d", "e", "f"],
 ];
 
-const OTHER_CHART: [&[&str]; 3] = [
-    &[],
-    &["route"],
-    &["raim_chart", "route", "route"],
-];
+const OTHER_CHART: [&[&str]; 3] = [&[], &["route"], &["raim_chart", "route", "route"]];
 
 #[test]
 fn other_words_are_usage(rt: HostRuntime) -> Result<(), Fail> {
