@@ -42,81 +42,83 @@ fn both_give(alloc: Global, flight: Flight, from: i64, expected: &[(i64, i64, Ve
 
 const STEEP: Verdict = Verdict::Unavailable(Why::Slope);
 
+const MINUTE: &str =
+    "2024-10-27T00:00:00.000Z 40 -30 10000\n2024-10-27T00:01:00.000Z 40.001 -29.999 10000\n";
+
 #[test]
-fn halving_gives_the_runs_of_the_single_milliseconds(rt: HostRuntime) -> Result<(), Fail> {
+fn a_satellite_sets(rt: HostRuntime) -> Result<(), Fail> {
+    let alloc = rt.alloc();
+    let eight = [sem_almanac(alloc, "2338", &EIGHT)?];
+    let limits = "leap 0\nmask 9.9\nalert enroute\nbias 5 2000000\n";
+    let expected = [(0, 19241, Verdict::Available), (19241, 60000, STEEP)];
+    let flight = flight_of(limits, &eight, "", MINUTE);
+    assert!(rt; both_give(alloc, flight, WEEK, &expected));
+    Ok(())
+}
+
+#[test]
+fn slopes_and_a_determinant_fall(rt: HostRuntime) -> Result<(), Fail> {
     let alloc = rt.alloc();
     let six = [sem_almanac(alloc, "2338", &EIGHT[..6])?];
     let seven = [sem_almanac(alloc, "2338", &EIGHT[..7])?];
-    let eight = [sem_almanac(alloc, "2338", &EIGHT)?];
-    let both = [
-        sem_almanac(alloc, "2338", &EIGHT)?,
-        sem_almanac(alloc, "2339", &EIGHT[..7])?,
-    ];
-    let setting = "leap 0\nmask 9.9\nalert enroute\nbias 5 2000000\n";
     let falling = "leap 0\nmask -90\nalert enroute\nbias 5 919775\n";
     let excluding = "leap 0\nmask -90\nalert enroute\nbias 5 919775\nmode exclude\n";
     let weighed =
         "leap 0\nmask -90\nalert 1000000000\nbias 5 1\nweight 1 0.5\nweight 2 0.4\nweight 3 0.45\nweight 4 0.35\nweight 5 0.3\nweight 6 0.57881\n";
-    let changing = "leap 0\nmask -90\nalert enroute\nbias 5 923222\n";
-    let outages =
-        "3 2024-10-30T11:59:40.000Z 2024-10-30T11:59:50.000Z\n5 2024-10-30T11:59:47.000Z -\n";
-    let minute =
-        "2024-10-27T00:00:00.000Z 40 -30 10000\n2024-10-27T00:01:00.000Z 40.001 -29.999 10000\n";
-    let middle =
-        "2024-10-30T11:59:30.000Z 40 -30 10000\n2024-10-30T12:00:12.000Z 40 -30 10000\n2024-10-30T12:00:30.000Z 40.01 -29.99 0\n";
-    // half a minute before the middle of the week
-    let from = WEEK + 302_370_000;
-    let rows: [(Flight, i64, &[(i64, i64, Verdict)]); 5] = [
-        // A satellite sets.
-        (
-            flight_of(setting, &eight, "", minute),
-            WEEK,
-            &[(0, 19241, Verdict::Available), (19241, 60000, STEEP)],
-        ),
-        // A slope falls.
+    let rows: [(Flight, &[(i64, i64, Verdict)]); 3] = [
+        // Of all satellites, and without one.
         (
             flight_of(falling, &six, "", HALF),
-            WEEK,
             &[
                 (0, 249, STEEP),
                 (249, 250, Verdict::Undecided(Cmp::Slope(4))),
                 (250, 500, Verdict::Available),
             ],
         ),
-        // A slope without one satellite falls.
         (
             flight_of(excluding, &seven, "", HALF),
-            WEEK,
             &[
                 (0, 249, STEEP),
                 (249, 250, Verdict::Undecided(Cmp::SlopeWithout(7, 4))),
                 (250, 500, Verdict::Available),
             ],
         ),
-        // A determinant falls.
         (
             flight_of(weighed, &six, "", HALF),
-            WEEK,
             &[
                 (0, 245, Verdict::Available),
                 (245, 247, Verdict::Undecided(Cmp::Det)),
                 (247, 500, Verdict::Unavailable(Why::Singular)),
             ],
         ),
-        // Outages, a waypoint and a handover.
-        (
-            flight_of(changing, &both, outages, middle),
-            from,
-            &[
-                (0, 10000, Verdict::Available),
-                (10000, 20000, STEEP),
-                (20000, 30001, Verdict::Available),
-                (30001, 60000, STEEP),
-            ],
-        ),
     ];
-    for (flight, from, expected) in rows {
-        assert!(rt; both_give(alloc, flight, from, expected), "{expected:?}");
+    for (flight, expected) in rows {
+        assert!(rt; both_give(alloc, flight, WEEK, expected), "{expected:?}");
     }
+    Ok(())
+}
+
+#[test]
+fn outages_a_waypoint_and_a_handover(rt: HostRuntime) -> Result<(), Fail> {
+    let alloc = rt.alloc();
+    let both = [
+        sem_almanac(alloc, "2338", &EIGHT)?,
+        sem_almanac(alloc, "2339", &EIGHT[..7])?,
+    ];
+    let limits = "leap 0\nmask -90\nalert enroute\nbias 5 923222\n";
+    let outages =
+        "3 2024-10-30T11:59:40.000Z 2024-10-30T11:59:50.000Z\n5 2024-10-30T11:59:47.000Z -\n";
+    let route =
+        "2024-10-30T11:59:30.000Z 40 -30 10000\n2024-10-30T12:00:12.000Z 40 -30 10000\n2024-10-30T12:00:30.000Z 40.01 -29.99 0\n";
+    // half a minute before the middle of the week
+    let from = WEEK + 302_370_000;
+    let expected = [
+        (0, 10000, Verdict::Available),
+        (10000, 20000, STEEP),
+        (20000, 30001, Verdict::Available),
+        (30001, 60000, STEEP),
+    ];
+    let flight = flight_of(limits, &both, outages, route);
+    assert!(rt; both_give(alloc, flight, from, &expected));
     Ok(())
 }
