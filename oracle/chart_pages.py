@@ -1,8 +1,8 @@
 #!/usr/bin/env python3
-"""Prints `crates/report_chart/src/tests/tables.rt`: the pages of charts, made from the written rules of crates/report_chart/README.md by the
+"""Prints `crates/edge_cases/src/pages.rt`: the pages of charts, made from the written rules of crates/report_chart/README.md by the
 calendar of Python, fractions and lists of lines.
 
-Usage: python3 oracle/chart_pages.py > crates/report_chart/src/tests/tables.rt
+Usage: python3 oracle/chart_pages.py > crates/edge_cases/src/pages.rt
        python3 oracle/chart_pages.py page REPORT.. > PAGE.html     (of one report a flight's page, of several that of a fleet)
 """
 import sys
@@ -216,7 +216,7 @@ NIGHT = """\
 # a whole day, of which no millisecond is Available and none undecided
 DAY = "1980-01-06T00:00:00.000Z 1980-01-07T00:00:00.000Z Unavailable Slope\n"
 
-REASON = b'limits: line 7: <b>&"x" is > 5\xff\t~\x7f'
+REASON = b'refused limits line 7: <b>&"x" is > 5\xff\t~\x7f'
 
 
 def literal(text):

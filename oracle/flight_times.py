@@ -1,7 +1,7 @@
 #!/usr/bin/env python3
 """The instants of the six-hours files, in milliseconds since the GPS epoch, in whole numbers.
 
-They are expected values of the tests of flight_files. UTC is read as civil time, GPS time is ahead of it by
+They are expected values of `crates/edge_cases/src/files.rt`. UTC is read as civil time, GPS time is ahead of it by
 the leap seconds of the limits, and the almanac's time of applicability is second 405504 of week 2338."""
 
 from datetime import datetime, timedelta

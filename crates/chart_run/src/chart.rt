@@ -89,7 +89,7 @@ fn answer_words<D: Desk, K: Sink>(
 }
 
 /// Writes the page of a report or of the text of a fleet. The words are the program's name and the path of the file, which
-/// is read whole from the desk's place of the route, and no more than `LONGEST_REPORT` bytes. The page is whole before its
+/// is read whole from the desk's place of the route, and no more than eight mebibytes. The page is whole before its
 /// first byte is written. The line of a status that is not `Done` goes to the note.
 pub fn run_chart<D: Desk, K: Sink>(
     alloc: Global,

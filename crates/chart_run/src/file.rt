@@ -11,7 +11,7 @@ use raim_model::{FileNo, TextWhy};
 use std::alloc::Global;
 
 /// The most bytes of a file: eight mebibytes. A report of 65,536 runs has 5.3 million.
-pub const LONGEST_REPORT: usize = 8_388_608;
+const LONGEST_REPORT: usize = 8_388_608;
 
 // All bytes that a path holds.
 pub(crate) fn read_file<D: Desk>(

@@ -7,11 +7,8 @@ mod note;
 mod page;
 mod process;
 mod status;
-#[cfg(test)]
-mod tests;
 mod words;
 
 pub use chart::run_chart;
-pub use file::LONGEST_REPORT;
 pub use process::{run_chart_process, run_chart_to_end};
 pub use status::ChartStatus;

@@ -7,8 +7,6 @@ mod fleet;
 mod laws;
 mod note;
 mod process;
-#[cfg(test)]
-mod tests;
 mod texts;
 mod words;
 mod writing;

@@ -8,8 +8,6 @@ mod paths;
 mod read;
 mod stop;
 mod sure;
-#[cfg(test)]
-mod tests;
 
 pub use files::FlightFiles;
 pub use paths::FlightPaths;

@@ -7,8 +7,6 @@ mod flight;
 mod laws;
 mod splits;
 mod stops;
-#[cfg(test)]
-mod tests;
 
 pub use against::forecast_against;
 pub use alert::Alert;

@@ -3,5 +3,4 @@ pub mod Settling
 pub mod RunLemmas
 pub mod NoteLemmas
 pub mod FileLemmas
-pub mod CaseLemmas
 pub mod PredictLemmas

@@ -12,5 +12,4 @@ pub mod Others
 pub mod Steps
 pub mod Notes
 pub mod Endings
-pub mod CaseRead
 pub mod Texts

@@ -5,7 +5,6 @@ ghost use Rattle.std.specs.String.{string_bytes};
 ghost use Rattle.raim_base.specs.Causes.{GrowsByFront};
 ghost use Rattle.raim_run.specs.Endings.{EndsWith};
 ghost use Rattle.raim_run.specs.Notes.{note_of};
-ghost use Rattle.command_words.specs.Asked.{asked_of};
 ghost use Rattle.command_words.specs.Vertical.{asked_for};
 ghost use Rattle.raim_run.specs.Statuses.{number_of};
 
@@ -62,19 +61,6 @@ pub fn run_program_to_end<D: Desk, K: Sink>(
     ensures { EndsWith program (asked_for program (map string_bytes words.now)) (D.holds desk.old) (K.contents out.old) (K.contents out.new) (K.contents note.old) (K.contents note.new) (exit_status result) }
 {
     run_counted::<D, K, Brand>(program, alloc, words, desk, out, note, Blank::new(1))
-}
-
-/// Runs the words of `raim` over a desk and two sinks, and answers the exit code of the status.
-pub fn run_to_end<D: Desk, K: Sink>(
-    alloc: Global,
-    words: &[String],
-    desk: &mut D,
-    out: &mut K,
-    note: &mut K,
-) -> ExitCode
-    ensures { EndsWith Program.Raim (asked_of (map string_bytes words.now)) (D.holds desk.old) (K.contents out.old) (K.contents out.new) (K.contents note.old) (K.contents note.new) (exit_status result) }
-{
-    run_program_to_end(Program::Raim, alloc, words, desk, out, note)
 }
 
 // The words of the process. Where one of them is no text there are none, which is no form of words.

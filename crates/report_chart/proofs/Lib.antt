@@ -2,7 +2,6 @@ pub mod AsciiLaws
 pub mod BandLemmas
 pub mod BarLaws
 pub mod FlightLemmas
-pub mod FollowLemmas
 pub mod HourLemmas
 pub mod PageLaws
 pub mod PageLemmas

@@ -17,8 +17,6 @@ mod push;
 mod reason;
 mod refused;
 mod span;
-#[cfg(test)]
-mod tests;
 mod totals;
 
 pub use chart::{Chart, Row};

@@ -4,8 +4,9 @@
 ghost use Rattle.raim_model.specs.CaseCuts.{MayBeJudged};
 ghost use Rattle.raim_model.specs.Cuts.{AreCuts};
 
-use crate::tests::flights::{WEEK, case, constellation};
-use crate::tests::runs::{are_runs, judged};
+use crate::tests::flights::{Flight, HALF, WEEK, are_runs, case_of, flight_of};
+use crate::tests::runs::judged;
+use flight_samples::{EIGHT, sem_almanac};
 use piece_verdict::Case;
 use raim_model::{Cmp, Run, SplitFault, Verdict, Why};
 use sample_judges::split_each_afresh;
@@ -21,14 +22,11 @@ fn judged_singly(alloc: Global, case: &Case, cuts: &[i64]) -> Result<Vec<Run>, S
     split_each_afresh::<Case, Brand>(alloc, case, cuts, Blank::new(1))
 }
 
-/// Whether halving a case's flight and judging each of its milliseconds give these runs.
-fn both_give(
-    alloc: Global,
-    case: Option<Case>,
-    from: i64,
-    expected: &[(i64, i64, Verdict)],
-) -> bool {
-    let Some(case) = case else { return false };
+/// Whether halving a flight and judging each of its milliseconds give these runs, from `from` on.
+fn both_give(alloc: Global, flight: Flight, from: i64, expected: &[(i64, i64, Verdict)]) -> bool {
+    let Some(case) = case_of(alloc, flight) else {
+        return false;
+    };
     let Ok(cuts) = case.cuts(alloc) else {
         return false;
     };
@@ -42,78 +40,61 @@ fn both_give(
     }
 }
 
-/// Half a second over the ocean.
-const HALF: &str =
-    "2024-10-27T00:00:00.000Z 40 -30 10000\n2024-10-27T00:00:00.500Z 40.001 -29.999 10000\n";
-
 const STEEP: Verdict = Verdict::Unavailable(Why::Slope);
+
+const MINUTE: &str =
+    "2024-10-27T00:00:00.000Z 40 -30 10000\n2024-10-27T00:01:00.000Z 40.001 -29.999 10000\n";
 
 #[test]
 fn a_satellite_sets(rt: HostRuntime) -> Result<(), Fail> {
     let alloc = rt.alloc();
-    let eight = [constellation(alloc, "2338", 8)?];
+    let eight = [sem_almanac(alloc, "2338", &EIGHT)?];
     let limits = "leap 0\nmask 9.9\nalert enroute\nbias 5 2000000\n";
-    let route =
-        "2024-10-27T00:00:00.000Z 40 -30 10000\n2024-10-27T00:01:00.000Z 40.001 -29.999 10000\n";
     let expected = [(0, 19241, Verdict::Available), (19241, 60000, STEEP)];
-    assert!(rt;
-        both_give(
-            alloc,
-            case(alloc, limits, &eight, "", route),
-            WEEK,
-            &expected
-        )
-    );
+    let flight = flight_of(limits, &eight, "", MINUTE);
+    assert!(rt; both_give(alloc, flight, WEEK, &expected));
     Ok(())
 }
 
 #[test]
-fn a_slope_falls(rt: HostRuntime) -> Result<(), Fail> {
+fn slopes_and_a_determinant_fall(rt: HostRuntime) -> Result<(), Fail> {
     let alloc = rt.alloc();
-    let six = [constellation(alloc, "2338", 6)?];
-    let limits = "leap 0\nmask -90\nalert enroute\nbias 5 919775\n";
-    let expected = [
-        (0, 249, STEEP),
-        (249, 250, Verdict::Undecided(Cmp::Slope(4))),
-        (250, 500, Verdict::Available),
-    ];
-    assert!(rt; both_give(alloc, case(alloc, limits, &six, "", HALF), WEEK, &expected));
-    Ok(())
-}
-
-#[test]
-fn a_slope_without_a_satellite_falls(rt: HostRuntime) -> Result<(), Fail> {
-    let alloc = rt.alloc();
-    let seven = [constellation(alloc, "2338", 7)?];
-    let limits = "leap 0\nmask -90\nalert enroute\nbias 5 919775\nmode exclude\n";
-    let expected = [
-        (0, 249, STEEP),
-        (249, 250, Verdict::Undecided(Cmp::SlopeWithout(7, 4))),
-        (250, 500, Verdict::Available),
-    ];
-    assert!(rt;
-        both_give(
-            alloc,
-            case(alloc, limits, &seven, "", HALF),
-            WEEK,
-            &expected
-        )
-    );
-    Ok(())
-}
-
-#[test]
-fn a_determinant_falls(rt: HostRuntime) -> Result<(), Fail> {
-    let alloc = rt.alloc();
-    let six = [constellation(alloc, "2338", 6)?];
-    let limits =
+    let six = [sem_almanac(alloc, "2338", &EIGHT[..6])?];
+    let seven = [sem_almanac(alloc, "2338", &EIGHT[..7])?];
+    let falling = "leap 0\nmask -90\nalert enroute\nbias 5 919775\n";
+    let excluding = "leap 0\nmask -90\nalert enroute\nbias 5 919775\nmode exclude\n";
+    let weighed =
         "leap 0\nmask -90\nalert 1000000000\nbias 5 1\nweight 1 0.5\nweight 2 0.4\nweight 3 0.45\nweight 4 0.35\nweight 5 0.3\nweight 6 0.57881\n";
-    let expected = [
-        (0, 245, Verdict::Available),
-        (245, 247, Verdict::Undecided(Cmp::Det)),
-        (247, 500, Verdict::Unavailable(Why::Singular)),
+    let rows: [(Flight, &[(i64, i64, Verdict)]); 3] = [
+        // Of all satellites, and without one.
+        (
+            flight_of(falling, &six, "", HALF),
+            &[
+                (0, 249, STEEP),
+                (249, 250, Verdict::Undecided(Cmp::Slope(4))),
+                (250, 500, Verdict::Available),
+            ],
+        ),
+        (
+            flight_of(excluding, &seven, "", HALF),
+            &[
+                (0, 249, STEEP),
+                (249, 250, Verdict::Undecided(Cmp::SlopeWithout(7, 4))),
+                (250, 500, Verdict::Available),
+            ],
+        ),
+        (
+            flight_of(weighed, &six, "", HALF),
+            &[
+                (0, 245, Verdict::Available),
+                (245, 247, Verdict::Undecided(Cmp::Det)),
+                (247, 500, Verdict::Unavailable(Why::Singular)),
+            ],
+        ),
     ];
-    assert!(rt; both_give(alloc, case(alloc, limits, &six, "", HALF), WEEK, &expected));
+    for (flight, expected) in rows {
+        assert!(rt; both_give(alloc, flight, WEEK, expected), "{expected:?}");
+    }
     Ok(())
 }
 
@@ -121,8 +102,8 @@ fn a_determinant_falls(rt: HostRuntime) -> Result<(), Fail> {
 fn outages_a_waypoint_and_a_handover(rt: HostRuntime) -> Result<(), Fail> {
     let alloc = rt.alloc();
     let both = [
-        constellation(alloc, "2338", 8)?,
-        constellation(alloc, "2339", 7)?,
+        sem_almanac(alloc, "2338", &EIGHT)?,
+        sem_almanac(alloc, "2339", &EIGHT[..7])?,
     ];
     let limits = "leap 0\nmask -90\nalert enroute\nbias 5 923222\n";
     let outages =
@@ -137,13 +118,7 @@ fn outages_a_waypoint_and_a_handover(rt: HostRuntime) -> Result<(), Fail> {
         (20000, 30001, Verdict::Available),
         (30001, 60000, STEEP),
     ];
-    assert!(rt;
-        both_give(
-            alloc,
-            case(alloc, limits, &both, outages, route),
-            from,
-            &expected
-        )
-    );
+    let flight = flight_of(limits, &both, outages, route);
+    assert!(rt; both_give(alloc, flight, from, &expected));
     Ok(())
 }

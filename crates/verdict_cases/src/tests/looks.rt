@@ -6,7 +6,8 @@ ghost use Rattle.raim_model.specs.CaseCuts.{MayBeJudged};
 ghost use Rattle.raim_model.specs.Cuts.{AreCuts};
 
 use crate::piece::looks_within;
-use crate::tests::flights::{MILD, SECOND, WEEK, case, constellation, five, five_at_one_place};
+use crate::tests::flights::{Flight, WEEK, case_of, flight_of};
+use flight_samples::{EIGHT, FIVE, MILD, OVERHEAD, SECOND, sem_almanac};
 use piece_verdict::{Case, Looks};
 use raim_model::{Cmp, Why};
 use slope_laws::{Shift, SubsetVerdict};
@@ -103,8 +104,8 @@ fn agrees(alloc: Global, case: &Case, line: &str) -> bool {
 }
 
 /// Whether what is seen on a flight is what the lines say.
-fn has_looks(alloc: Global, case: Option<Case>, lines: &str) -> bool {
-    match case {
+fn has_looks(alloc: Global, flight: Flight, lines: &str) -> bool {
+    match case_of(alloc, flight) {
         Some(case) => lines.lines().all(|line| agrees(alloc, &case, line)),
         None => false,
     }
@@ -113,12 +114,12 @@ fn has_looks(alloc: Global, case: Option<Case>, lines: &str) -> bool {
 /// What the test upwards makes of the rows over a piece, against an alert limit in millimetres.
 fn upwards(
     alloc: Global,
-    case: Option<Case>,
+    flight: Flight,
     first: i64,
     last: i64,
     limit_mm: u32,
 ) -> Option<SubsetVerdict> {
-    let case = case?;
+    let case = case_of(alloc, flight)?;
     let Some(Looks::Rows(rows)) = looked_from_week(alloc, &case, first, last) else {
         return None;
     };
@@ -145,90 +146,60 @@ const TEN: &str =
     "2024-10-27T00:00:00.000Z 40 -30 10000\n2024-10-27T00:00:10.000Z 40.001 -29.999 10000\n";
 
 #[test]
-fn visible_satellites_are_rows_with_their_weights(rt: HostRuntime) -> Result<(), Fail> {
+fn pieces_are_seen(rt: HostRuntime) -> Result<(), Fail> {
     let alloc = rt.alloc();
-    let five = five(alloc)?;
-    assert!(rt; has_looks(alloc, case(alloc, WEIGHED, &five, "", SECOND), ROWS_OF_FIVE));
-    Ok(())
-}
-
-#[test]
-fn a_satellite_straddles_the_mask_where_it_sets(rt: HostRuntime) -> Result<(), Fail> {
-    let alloc = rt.alloc();
-    let eight = [constellation(alloc, "2338", 8)?];
-    assert!(rt; has_looks(alloc, case(alloc, SETTING, &eight, "", TEN), LOOKS_AT_EIGHT));
-    Ok(())
-}
-
-#[test]
-fn too_few_come_before_a_straddling_one(rt: HostRuntime) -> Result<(), Fail> {
-    let alloc = rt.alloc();
-    let eight = [constellation(alloc, "2338", 8)?];
+    let five = [sem_almanac(alloc, "2338", &FIVE)?];
+    let eight = [sem_almanac(alloc, "2338", &EIGHT)?];
+    let overhead = [sem_almanac(alloc, "2338", &OVERHEAD)?];
+    let zenith = "leap 0\nmask 90\nalert 1000000000\nbias 5 1\n";
     let three =
         "1 2024-10-27T00:00:00.000Z -\n2 2024-10-27T00:00:00.000Z -\n3 2024-10-27T00:00:00.000Z -\n";
-    let five_may_be_visible = "0 9999 Straddle 8\n9999 9999 Few\n";
-    assert!(rt;
-        has_looks(
-            alloc,
-            case(alloc, SETTING, &eight, three, TEN),
-            five_may_be_visible
-        )
-    );
     let four =
         "1 2024-10-27T00:00:00.000Z -\n2 2024-10-27T00:00:00.000Z -\n3 2024-10-27T00:00:00.000Z -\n4 2024-10-27T00:00:00.000Z -\n";
-    let four_may_be_visible = "0 9999 Few\n";
-    assert!(rt;
-        has_looks(
-            alloc,
-            case(alloc, SETTING, &eight, four, TEN),
-            four_may_be_visible
-        )
-    );
-    Ok(())
-}
-
-#[test]
-fn the_first_straddling_satellite_is_named(rt: HostRuntime) -> Result<(), Fail> {
-    let alloc = rt.alloc();
-    let overhead = [five_at_one_place(alloc, "2338", "-0.30", "0.0")?];
-    let limits = "leap 0\nmask 90\nalert 1000000000\nbias 5 1\n";
-    assert!(rt;
-        has_looks(
-            alloc,
-            case(alloc, limits, &overhead, "", SECOND),
-            "0 0 Straddle 1\n"
-        )
-    );
+    let rows: [(Flight, &str); 5] = [
+        // Visible satellites are rows with their weights.
+        (flight_of(WEIGHED, &five, "", SECOND), ROWS_OF_FIVE),
+        // A satellite straddles the mask where it sets.
+        (flight_of(SETTING, &eight, "", TEN), LOOKS_AT_EIGHT),
+        // Too few come before a straddling one: five may be visible, and then four.
+        (
+            flight_of(SETTING, &eight, three, TEN),
+            "0 9999 Straddle 8\n9999 9999 Few\n",
+        ),
+        (flight_of(SETTING, &eight, four, TEN), "0 9999 Few\n"),
+        // The first straddling satellite is named.
+        (flight_of(zenith, &overhead, "", SECOND), "0 0 Straddle 1\n"),
+    ];
+    for (flight, lines) in rows {
+        assert!(rt; has_looks(alloc, flight, lines), "{lines}");
+    }
     Ok(())
 }
 
 #[test]
 fn rows_are_tested_upwards(rt: HostRuntime) -> Result<(), Fail> {
     let alloc = rt.alloc();
-    let five = five(alloc)?;
-    let eight = [constellation(alloc, "2338", 8)?];
-    let steep = Some(SubsetVerdict::Fail(Why::Slope));
-    let open = Some(SubsetVerdict::Straddle(Cmp::Slope(1)));
-    let passes = Some(SubsetVerdict::Pass);
-    for (last, limit_mm, expected) in [
-        (0, 5, steep),
-        (0, 6, passes),
-        (999, 5, steep),
-        (999, 6, passes),
+    let five = [sem_almanac(alloc, "2338", &FIVE)?];
+    let eight = [sem_almanac(alloc, "2338", &EIGHT)?];
+    let second = flight_of(WEIGHED, &five, "", SECOND);
+    let ten = flight_of(SETTING, &eight, "", TEN);
+    let steep = SubsetVerdict::Fail(Why::Slope);
+    let open = SubsetVerdict::Straddle(Cmp::Slope(1));
+    let passes = SubsetVerdict::Pass;
+    for (flight, first, last, limit_mm, expected) in [
+        (second, 0, 0, 5, steep),
+        (second, 0, 0, 6, passes),
+        (second, 0, 999, 5, steep),
+        (second, 0, 999, 6, passes),
+        (ten, 0, 0, 3_445_815, steep),
+        (ten, 0, 0, 3_445_816, open),
+        (ten, 0, 0, 3_445_817, passes),
+        (ten, 9_000, 9_999, 3_697_290, steep),
+        (ten, 9_000, 9_999, 4_000_000, open),
+        (ten, 9_000, 9_999, 4_446_643, passes),
     ] {
-        let case = case(alloc, WEIGHED, &five, "", SECOND);
-        assert_eq!(rt; upwards(alloc, case, 0, last, limit_mm), expected);
-    }
-    for (first, last, limit_mm, expected) in [
-        (0, 0, 3_445_815, steep),
-        (0, 0, 3_445_816, open),
-        (0, 0, 3_445_817, passes),
-        (9_000, 9_999, 3_697_290, steep),
-        (9_000, 9_999, 4_000_000, open),
-        (9_000, 9_999, 4_446_643, passes),
-    ] {
-        let case = case(alloc, SETTING, &eight, "", TEN);
-        assert_eq!(rt; upwards(alloc, case, first, last, limit_mm), expected);
+        let found = upwards(alloc, flight, first, last, limit_mm);
+        assert_eq!(rt; found, Some(expected), "{limit_mm}");
     }
     Ok(())
 }
@@ -250,8 +221,18 @@ const FACTORS: [(usize, u32, i128, i128); 8] = [
     (5, 260_000, 274_877_906_944, 274_877_906_944),
 ];
 
-/// Whether a case has these ends of a factor.
-fn has_factor(case: &Case, n: usize, limit_mm: u32, low: i128, high: i128) -> bool {
+/// Whether a flight has these ends of a factor.
+fn has_factor(
+    alloc: Global,
+    flight: Flight,
+    n: usize,
+    limit_mm: u32,
+    low: i128,
+    high: i128,
+) -> bool {
+    let Some(case) = case_of(alloc, flight) else {
+        return false;
+    };
     if n < 5 || n > 32 || limit_mm == 0 || limit_mm > 1_000_000_000 {
         return false;
     }
@@ -259,43 +240,34 @@ fn has_factor(case: &Case, n: usize, limit_mm: u32, low: i128, high: i128) -> bo
     kappa.lo == low && kappa.hi == high
 }
 
-#[test]
-fn factors_are_of_the_bias_for_so_many_satellites(rt: HostRuntime) -> Result<(), Fail> {
-    let alloc = rt.alloc();
-    let five = five(alloc)?;
-    let limits = "leap 0\nmask 5\nalert approach\nbias 5 260000\nbias 6 252000\nbias 7 244000\n";
-    let Some(case) = case(alloc, limits, &five, "", SECOND) else {
-        panic!(rt; "the case is not accepted");
-    };
-    for (n, limit_mm, low, high) in FACTORS {
-        assert!(rt; has_factor(&case, n, limit_mm, low, high), "{n} {limit_mm}");
-    }
-    Ok(())
-}
-
-/// Whether a case excludes.
-fn excludes(case: Option<Case>) -> Option<bool> {
-    match case {
+/// Whether a flight excludes.
+fn excludes(alloc: Global, flight: Flight) -> Option<bool> {
+    match case_of(alloc, flight) {
         Some(case) => Some(case.excludes()),
         None => None,
     }
 }
 
 #[test]
-fn the_mode_says_whether_satellites_are_excluded(rt: HostRuntime) -> Result<(), Fail> {
+fn limits_give_factors_and_a_mode(rt: HostRuntime) -> Result<(), Fail> {
     let alloc = rt.alloc();
-    let five = five(alloc)?;
-    let excluding = "leap 0\nmask 5\nalert 1\nbias 5 1\nmode exclude\n";
-    let detecting = "leap 0\nmask 5\nalert 1\nbias 5 1\nmode detect\n";
-    assert_eq!(rt;
-        excludes(case(alloc, excluding, &five, "", SECOND)),
-        Some(true)
-    );
-    assert_eq!(rt;
-        excludes(case(alloc, detecting, &five, "", SECOND)),
-        Some(false)
-    );
-    assert_eq!(rt; excludes(case(alloc, MILD, &five, "", SECOND)), Some(false));
+    let five = [sem_almanac(alloc, "2338", &FIVE)?];
+    let limits = "leap 0\nmask 5\nalert approach\nbias 5 260000\nbias 6 252000\nbias 7 244000\n";
+    let three = flight_of(limits, &five, "", SECOND);
+    for (n, limit_mm, low, high) in FACTORS {
+        assert!(rt;
+            has_factor(alloc, three, n, limit_mm, low, high),
+            "{n} {limit_mm}"
+        );
+    }
+    for (limits, expected) in [
+        ("leap 0\nmask 5\nalert 1\nbias 5 1\nmode exclude\n", true),
+        ("leap 0\nmask 5\nalert 1\nbias 5 1\nmode detect\n", false),
+        (MILD, false),
+    ] {
+        let found = excludes(alloc, flight_of(limits, &five, "", SECOND));
+        assert_eq!(rt; found, Some(expected));
+    }
     Ok(())
 }
 

@@ -1,5 +1,0 @@
-use Rattle.raim_run.proofs.predict_tests.predict.Given as goal
-
--- the ledger is the one that the blank names
-abbrev pub ghosts-predict_counted : goal.ghosts-predict_counted
-ghosts-predict_counted a = record { name = a.blank.name; parts = a.blank.parts }

@@ -1,5 +1,0 @@
-use Rattle.vert_run.proofs.tests.run_with.Given as goal
-
--- the ledger is the one that the blank names
-abbrev pub ghosts-run_counted : goal.ghosts-run_counted
-ghosts-run_counted a = record { name = a.blank.name; parts = a.blank.parts }
