@@ -3,7 +3,7 @@
 
 The one in force at t is found by sorting, and the handovers by trying each millisecond: no formula of the program is used.
 
-Usage: python3 oracle/table_of_almanacs.py prints the table of `crates/almanac_choice/src/tests.rt`.
+Usage: python3 oracle/table_of_almanacs.py prints the table of `crates/slope_cases/src/almanacs_in_force.rt`.
 """
 
 

@@ -1,5 +1,5 @@
 #!/usr/bin/env python3
-"""Prints the table of cases of crates/kepler_bracket/src/cases.rt: the ends of an interval of mean anomalies in turns, of
+"""Prints the table of cases of crates/orbit_cases/src/anomaly_table.rt: the ends of an interval of mean anomalies in turns, of
 one of eccentricities in turns, and of the sine and the cosine of their eccentric anomalies, in units of 2^-38.
 """
 import random

@@ -1,5 +1,5 @@
 #!/usr/bin/env python3
-"""Prints the table of cases of crates/fix_interval/src/cases.rt, from the written definitions, in exact arithmetic.
+"""Prints the table of cases of crates/number_cases/src/interval_table.rt, from the written definitions, in exact arithmetic.
 
 A line is a call, the ends of two intervals (or numbers in place of the second), and the ends of the answer, a truth, or
 none. Intervals are drawn near the greatest that a call takes, of both signs, around 0 and of one point.

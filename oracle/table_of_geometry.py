@@ -1,5 +1,5 @@
 #!/usr/bin/env python3
-"""Prints the table of `crates/geom_inverse/src/cases.rt`: lists of rows with their normal matrices, determinants, adjugates
+"""Prints the table of `crates/slope_cases/src/geometry_table.rt`: lists of rows with their normal matrices, determinants, adjugates
 and what rows have of them, worked out by `geometry.py`.
 
 Usage: python3 oracle/table_of_geometry.py

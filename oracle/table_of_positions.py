@@ -1,8 +1,8 @@
 #!/usr/bin/env python3
-"""Prints the table of positions of crates/almanac_orbit/src/cases.rt: the name of a record, the first and the last
+"""Prints the table of positions of crates/orbit_cases/src/position_table.rt: the name of a record, the first and the last
 millisecond of a piece, and the ends of the satellite's three coordinates, in units of 2^-38 Mm.
 
-The records are those of crates/almanac_orbit/src/records.rt. The last two are one satellite of a published almanac (week
+The records are those of crates/orbit_cases/src/records.rt. The last two are one satellite of a published almanac (week
 566 of the second count of weeks, PRN 2) in its two forms.
 """
 from orbits import WEEK, Record, position

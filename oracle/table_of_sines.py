@@ -1,5 +1,5 @@
 #!/usr/bin/env python3
-"""Prints the table of cases of crates/trig_enclose/src/cases.rt: the ends of an interval of turns, of its sine and of
+"""Prints the table of cases of crates/orbit_cases/src/sine_table.rt: the ends of an interval of turns, of its sine and of
 its cosine, in units of 2^-38.
 """
 import random

@@ -1,5 +1,5 @@
 #!/usr/bin/env python3
-"""Prints the table of `crates/exclusion_subsets/src/cases.rt`: lists of rows that a formula makes from a seed, and what the tests of
+"""Prints the table of `crates/slope_cases/src/slope_table.rt`: lists of rows that a formula makes from a seed, and what the tests of
 slopes make of them, worked out by `geometry.py`. A line has the seed, the number of rows, the greatest width, a word for the weights, the
 factor and the factor for one row fewer, and then the answers of detect and exclude, horizontally and vertically.
 
