@@ -106,7 +106,7 @@ fn other_texts_have_a_page_or_are_refused(rt: HostRuntime) -> Result<(), Fail> {
 }
 
 // As many runs as a flight may have, none of them Available, each of 1,318 ms, with the longest reason.
-fn report_of_many(alloc: Global) -> Result<Vec<u8>, Fail> {
+pub(crate) fn report_of_many(alloc: Global) -> Result<Vec<u8>, Fail> {
     let mut report = Vec::new(alloc);
     for k in 0..65_536u64 {
         let first = (1318 * k) as i64;

@@ -22,6 +22,8 @@ mod pages;
 #[cfg(test)]
 mod refusals;
 #[cfg(test)]
+mod sizes;
+#[cfg(test)]
 mod verticals;
 #[cfg(test)]
 mod words;
