@@ -4,7 +4,7 @@ ghost use Rattle.std.specs.Prelude.{◌≡◌, ◌≤◌};
 use crate::files::PATHS;
 use crate::over::{SURE, Texts, desk_of, texts_of};
 use flight_files::read_files;
-use flight_forecast::{NoForecast, forecast, forecast_up};
+use flight_forecast::{Alert, NoForecast, forecast_against};
 use flight_samples::*;
 use raim_base::MemDesk;
 use raim_model::{FileNo, Run, TextWhy, Verdict, Why};
@@ -32,26 +32,22 @@ fn forecast_counted<L: Ledger>(
         return None;
     };
     let mut steps: Steps<L> = Steps::new(blank);
-    if is_vertical {
-        Some(forecast_up(
-            alloc,
-            files.limits,
-            files.almanacs,
-            files.outages,
-            files.route,
-            1_000_000,
-            &mut steps,
-        ))
+    let alert = if is_vertical {
+        Alert::Vertical {
+            limit_mm: 1_000_000,
+        }
     } else {
-        Some(forecast(
-            alloc,
-            files.limits,
-            files.almanacs,
-            files.outages,
-            files.route,
-            &mut steps,
-        ))
-    }
+        Alert::Horizontal
+    };
+    Some(forecast_against(
+        alloc,
+        alert,
+        files.limits,
+        files.almanacs,
+        files.outages,
+        files.route,
+        &mut steps,
+    ))
 }
 
 /// The forecast of the files of a desk, or the vertical one under a kilometre; nothing where a file is refused.

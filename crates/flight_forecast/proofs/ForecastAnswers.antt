@@ -17,7 +17,7 @@ use Rattle.flight_laws.proofs.Cuts.{flight_times}
 use Rattle.time_split.specs.Faults.{FailsExactly}
 use Rattle.verdict_laws.specs.NearMask.{IsNearMaskAlways}
 use Rattle.case_laws.specs.Forecast.{InRun, LiesInRun}
-use Rattle.flight_forecast.specs.declared.alert.Alert.{Alert}
+use Rattle.piece_verdict.specs.declared.Alert.{Alert}
 use Rattle.flight_forecast.specs.declared.stops.NoForecast.{NoForecast}
 use Rattle.flight_forecast.specs.declared.stops.NoForecast.TheVariants as no
 use Rattle.flight_forecast.specs.Alerts.{IsAlert, verdict_against, HasVerdictAgainst, IsForecastAgainst}

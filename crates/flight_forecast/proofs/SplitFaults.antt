@@ -12,7 +12,7 @@ use Rattle.time_split.specs.Faults.{FailsExactly}
 use Rattle.flight_forecast.specs.declared.stops.NoForecast.{NoForecast}
 use Rattle.flight_forecast.specs.declared.stops.NoForecast.TheVariants as no
 use Rattle.flight_forecast.specs.NoForecasts.{stopped_by, StopsExactly}
-use Rattle.flight_forecast.specs.declared.alert.Alert.{Alert}
+use Rattle.piece_verdict.specs.declared.Alert.{Alert}
 use Rattle.flight_forecast.specs.Alerts.{verdict_against}
 use Rattle.flight_forecast.proofs.Forecasts.{RunsOf, ManyRunsOf, OverflowOf}
 

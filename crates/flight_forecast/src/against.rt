@@ -19,10 +19,9 @@ ghost use Rattle.flight_forecast.specs.Alerts.{IsAlert, verdict_against, HasVerd
 ghost use Rattle.flight_forecast.specs.InOrder.{CoverInOrder, IsWithin};
 ghost use Rattle.flight_forecast.specs.Steps.{HasCuts};
 
-use crate::alert::Alert;
 use crate::splits::runs_against;
 use crate::stops::{NoForecast, no_forecast};
-use piece_verdict::Case;
+use piece_verdict::{Alert, Case};
 use raim_model::{Almanac, Cmp, Limits, Outage, Run, SplitFault, Verdict};
 use route_interp::Route;
 use std::alloc::Global;

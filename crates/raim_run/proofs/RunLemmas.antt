@@ -32,7 +32,7 @@ use Rattle.flight_files.specs.declared.Stop.{Stop}
 use Rattle.flight_files.specs.declared.Stop.TheVariants as stop
 use Rattle.flight_forecast.specs.declared.NoForecast.{NoForecast}
 use Rattle.flight_forecast.specs.declared.NoForecast.TheVariants as none
-use Rattle.flight_forecast.specs.declared.Alert.{Alert}
+use Rattle.piece_verdict.specs.declared.Alert.{Alert}
 use Rattle.flight_forecast.specs.InOrder.{CoverInOrder}
 use Rattle.flight_forecast.specs.Steps.{HasCuts}
 use Rattle.flight_forecast.specs.Words.{InRun, LiesInRun, IsNearMaskAlways, verdict_against, HasVerdictAgainst}
