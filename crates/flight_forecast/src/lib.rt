@@ -4,9 +4,7 @@
 mod against;
 mod laws;
 mod splits;
-mod stops;
 
 pub use against::forecast_against;
 pub use laws::{a_flight_has_an_answer, runs_cover_a_span_in_order};
 pub use piece_verdict::Alert;
-pub use stops::NoForecast;
