@@ -4,10 +4,10 @@ ghost use Rattle.std.specs.Prelude.{◌≡◌, ◌≤◌};
 use crate::files::PATHS;
 use crate::over::{SURE, Texts, desk_of, texts_of};
 use flight_files::read_files;
-use flight_forecast::{NoForecast, forecast, forecast_up};
+use flight_forecast::{Alert, forecast_against};
 use flight_samples::*;
 use raim_base::MemDesk;
-use raim_model::{FileNo, Run, TextWhy, Verdict, Why};
+use raim_model::{FileNo, Run, SplitFault, TextWhy, Verdict, Why};
 use raim_run::{Status, predict_texts};
 use std::alloc::Global;
 use std::marker::Brand;
@@ -23,7 +23,7 @@ fn forecast_counted<L: Ledger>(
     desk: &mut MemDesk,
     is_vertical: bool,
     blank: Blank,
-) -> Option<Result<Vec<Run>, NoForecast>>
+) -> Option<Result<Vec<Run>, SplitFault>>
     requires name { blank.name ≡ L.name }
     requires parts { blank.parts ≡ L.parts }
     requires some { 1 ≤ blank.parts }
@@ -32,26 +32,22 @@ fn forecast_counted<L: Ledger>(
         return None;
     };
     let mut steps: Steps<L> = Steps::new(blank);
-    if is_vertical {
-        Some(forecast_up(
-            alloc,
-            files.limits,
-            files.almanacs,
-            files.outages,
-            files.route,
-            1_000_000,
-            &mut steps,
-        ))
+    let alert = if is_vertical {
+        Alert::Vertical {
+            limit_mm: 1_000_000,
+        }
     } else {
-        Some(forecast(
-            alloc,
-            files.limits,
-            files.almanacs,
-            files.outages,
-            files.route,
-            &mut steps,
-        ))
-    }
+        Alert::Horizontal
+    };
+    Some(forecast_against(
+        alloc,
+        alert,
+        files.limits,
+        files.almanacs,
+        files.outages,
+        files.route,
+        &mut steps,
+    ))
 }
 
 /// The forecast of the files of a desk, or the vertical one under a kilometre; nothing where a file is refused.
@@ -59,7 +55,7 @@ fn forecast_of(
     alloc: Global,
     desk: &mut MemDesk,
     is_vertical: bool,
-) -> Option<Result<Vec<Run>, NoForecast>> {
+) -> Option<Result<Vec<Run>, SplitFault>> {
     forecast_counted::<Brand>(alloc, desk, is_vertical, Blank::new(1))
 }
 
@@ -73,7 +69,7 @@ fn runs_of(alloc: Global, texts: Texts, is_vertical: bool) -> Result<Vec<Run>, F
 }
 
 /// Why four texts have no runs.
-fn stop_of(alloc: Global, texts: Texts) -> Result<NoForecast, Fail> {
+fn stop_of(alloc: Global, texts: Texts) -> Result<SplitFault, Fail> {
     let mut desk = desk_of(alloc, texts, SURE)?;
     match forecast_of(alloc, &mut desk, false) {
         Some(Err(stop)) => Ok(stop),
@@ -117,7 +113,7 @@ fn a_second_has_its_forecasts(rt: HostRuntime) -> Result<(), Fail> {
         assert!(rt; are_runs(&runs, expected), "{runs:?}");
     }
     let stop = stop_of(alloc, texts_of(steepest, five, "", SECOND))?;
-    assert_eq!(rt; stop, NoForecast::Overflow { at: START, prn: 1 });
+    assert_eq!(rt; stop, SplitFault::Overflow { at: START, prn: 1 });
     Ok(())
 }
 

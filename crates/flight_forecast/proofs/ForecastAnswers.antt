@@ -17,16 +17,13 @@ use Rattle.flight_laws.proofs.Cuts.{flight_times}
 use Rattle.time_split.specs.Faults.{FailsExactly}
 use Rattle.verdict_laws.specs.NearMask.{IsNearMaskAlways}
 use Rattle.case_laws.specs.Forecast.{InRun, LiesInRun}
-use Rattle.flight_forecast.specs.declared.alert.Alert.{Alert}
-use Rattle.flight_forecast.specs.declared.stops.NoForecast.{NoForecast}
-use Rattle.flight_forecast.specs.declared.stops.NoForecast.TheVariants as no
+use Rattle.piece_verdict.specs.declared.Alert.{Alert}
 use Rattle.flight_forecast.specs.Alerts.{IsAlert, verdict_against, HasVerdictAgainst, IsForecastAgainst}
 use Rattle.flight_forecast.specs.InOrder.{CoverInOrder, IsWithin}
-use Rattle.flight_forecast.specs.NoForecasts.{answer_of, StopsExactly}
 use Rattle.flight_forecast.proofs.Covers.{covers, within}
 use Rattle.flight_forecast.proofs.Forecasts.{RunsOf, ManyRunsOf, OverflowOf, are_a_forecast, certain_right, mask_near}
 use Rattle.flight_forecast.proofs.Printing.{printable}
-use Rattle.flight_forecast.proofs.SplitFaults.{fault_stops, fault_settles, runs_stop, runs_settle}
+use Rattle.flight_forecast.proofs.SplitFaults.{fault_settles, runs_settle}
 
 -- what splitting the flight of a case gives
 pub record IsSplit (alert : Alert) (c : Case) (result : Result (Vec Run Global) SplitFault) : Type 0 where
@@ -35,7 +32,7 @@ pub record IsSplit (alert : Alert) (c : Case) (result : Result (Vec Run Global) 
   pub overflow : (at : ℤ) (prn : ℕ) → FailsExactly result (split.Overflow at prn) (OverflowOf alert at prn c)
 
 -- what the forecast of the case says
-pub record Says (alert : Alert) (c : Case) (result : Result (Vec Run Global) NoForecast) : Type 0 where
+pub record Says (alert : Alert) (c : Case) (result : Result (Vec Run Global) SplitFault) : Type 0 where
   pub forecast : IfOk result (λ runs. IsForecastAgainst alert c runs.items)
   pub runs : IfOk result (λ runs. RunsOf alert runs.items c)
   pub in_order : IfOk result (λ runs. CoverInOrder (flight_of c.route) runs.items)
@@ -44,11 +41,11 @@ pub record Says (alert : Alert) (c : Case) (result : Result (Vec Run Global) NoF
   pub near : IfOk result (λ runs. (run : Run) (prn : ℕ) (t : ℤ) → Contains runs.items run → run.verdict ≡ Undecided (Mask prn) → InRun run t → IsNearMaskAlways c t prn)
   pub within : IfOk result (λ runs. All (IsWithin (flight_of c.route)) runs.items)
   pub printable : AreInstants c.limits.leap c.route → IfOk result (λ runs. All (IsPrintable c.limits.leap) runs.items)
-  pub overflow : (at : ℤ) (prn : ℕ) → StopsExactly result (no.Overflow at prn) (OverflowOf alert at prn c)
-  pub too_many : StopsExactly result no.TooManyRuns (ManyRunsOf alert c)
-  pub settled : (runs : List Run) → RunsOf alert runs c → IsOkAnd result (λ found. found.items ≡ runs) ⊎ IsErrOf result no.Memory
+  pub overflow : (at : ℤ) (prn : ℕ) → FailsExactly result (split.Overflow at prn) (OverflowOf alert at prn c)
+  pub too_many : FailsExactly result split.TooManyRuns (ManyRunsOf alert c)
+  pub settled : (runs : List Run) → RunsOf alert runs c → IsOkAnd result (λ found. found.items ≡ runs) ⊎ IsErrOf result split.Memory
 
-says : (alert : Alert) → IsAlert alert → (c : Case) → IsCase c → (result : Result (Vec Run Global) SplitFault) → IsSplit alert c result → Says alert c (answer_of result)
+says : (alert : Alert) → IsAlert alert → (c : Case) → IsCase c → (result : Result (Vec Run Global) SplitFault) → IsSplit alert c result → Says alert c result
 says alert a c i (Ok runs) s =
     let has : RunsOf alert runs.items c = s.runs in
     let is : IsForecastAgainst alert c runs.items = are_a_forecast alert a c i runs.items has in
@@ -62,8 +59,8 @@ says alert a c i (Ok runs) s =
       near = mask_near alert c runs.items is;
       within = inside;
       printable = λ instants. printable c.limits.leap c.route runs.items i.route inside instants;
-      overflow = λ at prn. runs_stop runs (split.Overflow at prn) (OverflowOf alert at prn c) (s.overflow at prn);
-      too_many = runs_stop runs split.TooManyRuns (ManyRunsOf alert c) s.too_many;
+      overflow = s.overflow;
+      too_many = s.too_many;
       settled = λ others h. inl (runs_settle alert c runs.items others has h);
     }
 says alert a c i (Err fault) s = record {
@@ -75,13 +72,11 @@ says alert a c i (Err fault) s = record {
   near = tt;
   within = tt;
   printable = λ instants. tt;
-  overflow = λ at prn. fault_stops {A = Vec Run Global} fault (split.Overflow at prn) (OverflowOf alert at prn c) (s.overflow at prn);
-  too_many = fault_stops {A = Vec Run Global} fault split.TooManyRuns (ManyRunsOf alert c) s.too_many;
+  overflow = s.overflow;
+  too_many = s.too_many;
   settled = λ runs h. inr (fault_settles {A = Vec Run Global} alert fault c s.too_many s.overflow runs h);
 }
 
--- of the case that was formed, and of the answer that was given
-pub said : (alert : Alert) → IsAlert alert → (c formed : Case) → IsCase c → formed ≡ c → (result : Result (Vec Run Global) SplitFault) → IsSplit alert formed result
-    → (answer : Result (Vec Run Global) NoForecast) → answer ≡ answer_of result → Says alert c answer
-said alert a c formed i is result s answer told =
-    subst (λ (x : Result (Vec Run Global) NoForecast). Says alert c x) (sym told) (says alert a c i result (subst (λ (k : Case). IsSplit alert k result) is s))
+-- of the case that was formed
+pub said : (alert : Alert) → IsAlert alert → (c formed : Case) → IsCase c → formed ≡ c → (result : Result (Vec Run Global) SplitFault) → IsSplit alert formed result → Says alert c result
+said alert a c formed i is result s = says alert a c i result (subst (λ (k : Case). IsSplit alert k result) is s)

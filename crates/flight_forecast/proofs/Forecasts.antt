@@ -10,7 +10,6 @@ use Rattle.raim_model.specs.declared.verdict.Run.{Run}
 use Rattle.raim_model.specs.declared.verdict.Verdict.TheVariants.{Undecided}
 use Rattle.raim_model.specs.AlmanacRanges.{AreAlmanacs}
 use Rattle.raim_model.specs.CaseRanges.{IsCase}
-use Rattle.raim_model.specs.CaseCuts.{MayBeJudged}
 use Rattle.raim_model.specs.Cuts.{AreCuts}
 use Rattle.raim_model.specs.Judgements.{is_certain}
 use Rattle.raim_model.specs.Level.{Level}
@@ -26,9 +25,9 @@ use Rattle.case_laws.specs.Forecast.{InRun, IsRight}
 use Rattle.case_laws.proofs.Choices.{has_choices}
 use Rattle.case_laws.proofs.Forecasts.{forecast}
 use Rattle.piece_verdict.specs.Cases.{case_of}
-use Rattle.vert_slope.specs.UpLaws.{MayBeJudgedUp}
-use Rattle.flight_forecast.specs.declared.alert.Alert.{Alert}
-use Rattle.flight_forecast.specs.declared.alert.Alert.TheVariants.{Horizontal, Vertical}
+use Rattle.piece_verdict.specs.declared.Alert.{Alert}
+use Rattle.piece_verdict.specs.Alerts.{MayBeJudgedAgainst}
+use Rattle.piece_verdict.specs.CaseLaws.{some_limit}
 use Rattle.flight_forecast.specs.Alerts.{IsAlert, shift_of, limit_of, verdict_against, HasVerdictAgainst, IsForecastAgainst}
 
 -- what splitting the flight of a case says
@@ -46,21 +45,10 @@ pub is_case : (limits : Limits) (almanacs : List (List AlmRecord)) (outages : Li
 is_case limits almanacs outages route l a o r = record { limits = l; almanacs = a; outages = o; route = r }
 
 -- a case whose root pieces may be judged is in its ranges
-pub judged_case : (c : Case) (cuts : List ℤ) → AreCuts (MayBeJudged c) cuts → IsCase c
-judged_case c [] h = absurd h
-judged_case c (only ∷ []) h = absurd h
-judged_case c (first ∷ next ∷ cuts) h = h.2.case
-
--- so is one whose root pieces may be judged by their vertical slopes
-pub judged_up_case : (c : Case) (vertical_mm : ℕ) (cuts : List ℤ) → AreCuts (MayBeJudgedUp c vertical_mm) cuts → IsCase c
-judged_up_case c vertical_mm [] h = absurd h
-judged_up_case c vertical_mm (only ∷ []) h = absurd h
-judged_up_case c vertical_mm (first ∷ next ∷ cuts) h = h.2.judged.case
-
--- the limit is some millimetres
-some_limit : (alert : Alert) → IsAlert alert → (c : Case) → IsCase c → 1 ≤ limit_of alert c
-some_limit Horizontal a c i = i.limits.alert.0
-some_limit (Vertical limit_mm) a c i = a.0
+pub judged_case : (alert : Alert) (c : Case) (cuts : List ℤ) → AreCuts (MayBeJudgedAgainst alert c) cuts → IsCase c
+judged_case alert c [] h = absurd h
+judged_case alert c (only ∷ []) h = absurd h
+judged_case alert c (first ∷ next ∷ cuts) h = h.2.judged.case
 
 pub are_a_forecast : (alert : Alert) → IsAlert alert → (c : Case) → IsCase c → (runs : List Run) → RunsOf alert runs c → IsForecastAgainst alert c runs
 are_a_forecast alert a c i runs h =

@@ -1,4 +1,3 @@
-pub mod NoForecasts
 pub mod Alerts
 pub mod InOrder
 pub mod Steps

@@ -14,35 +14,23 @@ ghost use Rattle.report_text.specs.Report.{IsPrintable};
 ghost use Rattle.verdict_laws.specs.NearMask.{IsNearMaskAlways};
 ghost use Rattle.case_laws.specs.Forecast.{InRun, LiesInRun};
 ghost use Rattle.piece_verdict.specs.Cases.{case_of};
-ghost use Rattle.flight_forecast.specs.NoForecasts.{StopsExactly, answer_of};
+ghost use Rattle.time_split.specs.Faults.{FailsExactly};
 ghost use Rattle.flight_forecast.specs.Alerts.{IsAlert, verdict_against, HasVerdictAgainst, IsForecastAgainst};
 ghost use Rattle.flight_forecast.specs.InOrder.{CoverInOrder, IsWithin};
 ghost use Rattle.flight_forecast.specs.Steps.{HasCuts};
 
-use crate::alert::Alert;
 use crate::splits::runs_against;
-use crate::stops::{NoForecast, no_forecast};
-use piece_verdict::Case;
+use piece_verdict::{Alert, Case};
 use raim_model::{Almanac, Cmp, Limits, Outage, Run, SplitFault, Verdict};
 use route_interp::Route;
 use std::alloc::Global;
 use std::sync::ledger::Ledger;
 use step_counter::Steps;
 
-/// The forecast of a flight that was split with this result.
-fn answered(split: Result<Vec<Run>, SplitFault>) -> Result<Vec<Run>, NoForecast>
-    ensures { result ≡ answer_of split }
-{
-    match split {
-        Ok(runs) => Ok(runs),
-        Err(fault) => Err(no_forecast(fault)),
-    }
-}
-
 /// The forecast of a flight, held against this: the runs of the verdicts of its milliseconds, from what accepted files give:
 /// limits, one to eight almanacs in the order of their file, outages and a route.
 ///
-/// What stops it is told by `NoForecast`. Want of memory may come in place of each answer.
+/// What stops it is told by `SplitFault`. Want of memory may come in place of each answer.
 pub fn forecast_against<L: Ledger>(
     alloc: Global,
     alert: Alert,
@@ -51,7 +39,7 @@ pub fn forecast_against<L: Ledger>(
     outages: Vec<Outage>,
     route: Route,
     steps: &mut Steps<L>,
-) -> Result<Vec<Run>, NoForecast>
+) -> Result<Vec<Run>, SplitFault>
     requires alert { IsAlert alert }
     requires limits { IsLimits limits }
     requires almanacs { AreAlmanacs (flight_of route) almanacs.items }
@@ -80,14 +68,14 @@ pub fn forecast_against<L: Ledger>(
     // at every level and millisecond of the flight there is a solution
     ensures exists { (N : Level) (t : ℤ) → InFlight (case_of limits almanacs.items outages.items route) t → Solution N (case_of limits almanacs.items outages.items route) t }
     // the first millisecond that overflows, for that satellite
-    ensures overflow { (at : ℤ) (prn : ℕ) → StopsExactly result (NoForecast.Overflow at prn)
+    ensures overflow { (at : ℤ) (prn : ℕ) → FailsExactly result (SplitFault.Overflow at prn)
         (OverflowsFirst (verdict_against alert (case_of limits almanacs.items outages.items route)) (flight_of route).first (flight_of route).end at prn) }
     // more runs than a flight may have
-    ensures too_many { StopsExactly result NoForecast.TooManyRuns
+    ensures too_many { FailsExactly result SplitFault.TooManyRuns
         (HasTooManyRuns (verdict_against alert (case_of limits almanacs.items outages.items route)) (flight_of route).first (flight_of route).end) }
     // where the flight has its runs, the answer is these
     ensures settled { (runs : List Run) → HasRuns (verdict_against alert (case_of limits almanacs.items outages.items route)) (flight_of route).first (flight_of route).end runs
-        → IsOkAnd result (λ found. found.items ≡ runs) ⊎ IsErrOf result NoForecast.Memory }
+        → IsOkAnd result (λ found. found.items ≡ runs) ⊎ IsErrOf result SplitFault.Memory }
     // as many steps at most as halving the flight's root pieces needs judgements, and none where memory runs out before its cuts
     ensures steps { (cuts : List ℤ) → CutsFlight (case_of limits almanacs.items outages.items route) cuts
         → steps.new ≤ steps.old + judgements_of_all (verdict_against alert (case_of limits almanacs.items outages.items route)) cuts }
@@ -95,7 +83,7 @@ pub fn forecast_against<L: Ledger>(
 {
     let _points = route.len();
     let Ok(case) = Case::prepare(alloc, limits, almanacs, outages, route) else {
-        return Err(NoForecast::Memory);
+        return Err(SplitFault::Memory);
     };
-    answered(runs_against(alloc, case, alert, steps))
+    runs_against(alloc, case, alert, steps)
 }

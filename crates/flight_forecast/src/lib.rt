@@ -2,14 +2,9 @@
 #![tactic(auto)]
 
 mod against;
-mod alert;
-mod flight;
 mod laws;
 mod splits;
-mod stops;
 
 pub use against::forecast_against;
-pub use alert::Alert;
-pub use flight::{forecast, forecast_up};
 pub use laws::{a_flight_has_an_answer, runs_cover_a_span_in_order};
-pub use stops::NoForecast;
+pub use piece_verdict::Alert;

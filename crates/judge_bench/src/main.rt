@@ -8,6 +8,7 @@ mod files;
 mod tally;
 
 use files::case_of_files;
+use piece_verdict::{Alert, FlightJudge};
 use std::{env, io};
 use tally::tally_of;
 
@@ -23,10 +24,14 @@ fn print_line(
     let Some(case) = case_of_files(rt, limits, almanac, outages, route)? else {
         return println!(rt; "a file is not accepted");
     };
-    let Ok(cuts) = case.cuts(rt.alloc()) else {
+    let judge = FlightJudge {
+        case,
+        alert: Alert::Horizontal,
+    };
+    let Ok(cuts) = judge.cuts(rt.alloc()) else {
         return println!(rt; "out of memory");
     };
-    let tally = tally_of(&case, cuts.as_slice(), n);
+    let tally = tally_of(&judge, cuts.as_slice(), n);
     println!(rt;
         "judged {} available {} unavailable {} undecided {} overflow {} checksum {:016x}",
         tally.judged,

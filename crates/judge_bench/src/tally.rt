@@ -1,10 +1,10 @@
 // The verdicts of milliseconds that are spread evenly over a flight.
 ghost use Rattle.std.specs.Prelude.{◌≡◌, ◌≤◌, ◌<◌};
-ghost use Rattle.raim_model.specs.CaseCuts.{MayBeJudged};
 ghost use Rattle.raim_model.specs.Cuts.{AreCuts};
+ghost use Rattle.piece_verdict.specs.Alerts.{MayBeJudgedAgainst};
 
 use crate::checksum::Checksum;
-use piece_verdict::Case;
+use piece_verdict::FlightJudge;
 use raim_model::{Piece, Verdict};
 use report_text::words_of_verdict;
 use std::marker::Brand;
@@ -56,21 +56,26 @@ impl Tally {
     }
 }
 
-fn judged_counted<L: Ledger>(case: &Case, cuts: &[i64], t: i64, blank: Blank) -> Option<Piece>
-    requires cuts { AreCuts (MayBeJudged case.now) cuts.now }
+fn judged_counted<L: Ledger>(
+    judge: &FlightJudge,
+    cuts: &[i64],
+    t: i64,
+    blank: Blank,
+) -> Option<Piece>
+    requires cuts { AreCuts (MayBeJudgedAgainst judge.now.alert judge.now.case) cuts.now }
     requires name { blank.name ≡ L.name }
     requires parts { blank.parts ≡ L.parts }
     requires some { 1 ≤ blank.parts }
 {
     let mut steps: Steps<L> = Steps::new(blank);
-    judge_within(case, cuts, t, t, &mut steps)
+    judge_within(judge, cuts, t, t, &mut steps)
 }
 
 /// What judging one millisecond answers, where the cuts' flight has it.
-fn judged(case: &Case, cuts: &[i64], t: i64) -> Option<Piece>
-    requires { AreCuts (MayBeJudged case.now) cuts.now }
+fn judged(judge: &FlightJudge, cuts: &[i64], t: i64) -> Option<Piece>
+    requires { AreCuts (MayBeJudgedAgainst judge.now.alert judge.now.case) cuts.now }
 {
-    judged_counted::<Brand>(case, cuts, t, Blank::new(1))
+    judged_counted::<Brand>(judge, cuts, t, Blank::new(1))
 }
 
 /// The millisecond at which the part `k` of `n` equal parts of a flight begins, rounded down.
@@ -84,8 +89,8 @@ fn part(first: i64, end: i64, k: u32, n: u32) -> Option<i64>
 }
 
 /// Judges `n` milliseconds of the cuts' flight, each by itself.
-pub fn tally_of(case: &Case, cuts: &[i64], n: u32) -> Tally
-    requires { AreCuts (MayBeJudged case.now) cuts.now }
+pub fn tally_of(judge: &FlightJudge, cuts: &[i64], n: u32) -> Tally
+    requires { AreCuts (MayBeJudgedAgainst judge.now.alert judge.now.case) cuts.now }
 {
     let mut tally = Tally::new();
     let [first, .., end] = cuts else {
@@ -93,7 +98,7 @@ pub fn tally_of(case: &Case, cuts: &[i64], n: u32) -> Tally
     };
     for k in 0..n {
         if let Some(t) = part(*first, *end, k, n) {
-            if let Some(Piece::Decided(verdict)) = judged(case, cuts, t) {
+            if let Some(Piece::Decided(verdict)) = judged(judge, cuts, t) {
                 tally.add(verdict);
             }
         }

@@ -1,9 +1,9 @@
 // How many pieces come out as their lines have them.
 ghost use Rattle.std.specs.Prelude.{◌≡◌, ◌≤◌};
-ghost use Rattle.raim_model.specs.CaseCuts.{MayBeJudged};
 ghost use Rattle.raim_model.specs.Cuts.{AreCuts};
+ghost use Rattle.piece_verdict.specs.Alerts.{MayBeJudgedAgainst};
 
-use piece_verdict::Case;
+use piece_verdict::FlightJudge;
 use raim_model::{Cmp, Piece, Verdict, Why};
 use std::marker::Brand;
 use std::str::SplitWhitespace;
@@ -68,32 +68,32 @@ fn spell(mut words: SplitWhitespace, verdict: Verdict) -> bool {
 }
 
 fn judged_counted<L: Ledger>(
-    case: &Case,
+    judge: &FlightJudge,
     cuts: &[i64],
     first: i64,
     last: i64,
     blank: Blank,
 ) -> Option<Piece>
-    requires cuts { AreCuts (MayBeJudged case.now) cuts.now }
+    requires cuts { AreCuts (MayBeJudgedAgainst judge.now.alert judge.now.case) cuts.now }
     requires name { blank.name ≡ L.name }
     requires parts { blank.parts ≡ L.parts }
     requires some { 1 ≤ blank.parts }
 {
     let mut steps: Steps<L> = Steps::new(blank);
-    judge_within(case, cuts, first, last, &mut steps)
+    judge_within(judge, cuts, first, last, &mut steps)
 }
 
 /// What judging a piece answers, where it lies between two neighbours of the cuts.
-fn judged(case: &Case, cuts: &[i64], first: i64, last: i64) -> Option<Piece>
-    requires { AreCuts (MayBeJudged case.now) cuts.now }
+fn judged(judge: &FlightJudge, cuts: &[i64], first: i64, last: i64) -> Option<Piece>
+    requires { AreCuts (MayBeJudgedAgainst judge.now.alert judge.now.case) cuts.now }
 {
-    judged_counted::<Brand>(case, cuts, first, last, Blank::new(1))
+    judged_counted::<Brand>(judge, cuts, first, last, Blank::new(1))
 }
 
 /// Whether a line's verdict is what is answered on its piece: of several milliseconds it is answered that they are to be halved
 /// where the verdict is undecided.
-fn agrees(case: &Case, cuts: &[i64], line: &str) -> bool
-    requires { AreCuts (MayBeJudged case.now) cuts.now }
+fn agrees(judge: &FlightJudge, cuts: &[i64], line: &str) -> bool
+    requires { AreCuts (MayBeJudgedAgainst judge.now.alert judge.now.case) cuts.now }
 {
     let mut words = line.split_whitespace();
     let Some(Ok(first)) = words.next().map(|word| word.parse::<i64>()) else {
@@ -102,7 +102,7 @@ fn agrees(case: &Case, cuts: &[i64], line: &str) -> bool
     let Some(Ok(last)) = words.next().map(|word| word.parse::<i64>()) else {
         return false;
     };
-    match judged(case, cuts, first, last) {
+    match judged(judge, cuts, first, last) {
         Some(Piece::Decided(verdict)) => spell(words, verdict),
         Some(Piece::Split) => words.next() == Some("Undecided"),
         None => false,
@@ -110,8 +110,8 @@ fn agrees(case: &Case, cuts: &[i64], line: &str) -> bool
 }
 
 /// Judges each line's piece.
-pub fn agreement_of(case: &Case, cuts: &[i64], lines: &str) -> Agreement
-    requires { AreCuts (MayBeJudged case.now) cuts.now }
+pub fn agreement_of(judge: &FlightJudge, cuts: &[i64], lines: &str) -> Agreement
+    requires { AreCuts (MayBeJudgedAgainst judge.now.alert judge.now.case) cuts.now }
 {
     let mut found = Agreement {
         pieces: 0,
@@ -119,7 +119,7 @@ pub fn agreement_of(case: &Case, cuts: &[i64], lines: &str) -> Agreement
     };
     for line in lines.lines() {
         found.pieces = found.pieces.saturating_add(1);
-        if agrees(case, cuts, line) {
+        if agrees(judge, cuts, line) {
             found.agree = found.agree.saturating_add(1);
         }
     }

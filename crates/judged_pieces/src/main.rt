@@ -10,6 +10,7 @@ mod files;
 
 use agreement::agreement_of;
 use files::case_of_files;
+use piece_verdict::{Alert, FlightJudge};
 use std::{env, fs, io};
 
 /// Judges the pieces of one list, and prints how many come out as they stand there.
@@ -24,11 +25,15 @@ fn judge_list(
     let Some(case) = case_of_files(rt, limits, almanacs, outages, route)? else {
         return println!(rt; "{}: a file is not accepted", list);
     };
-    let Ok(cuts) = case.cuts(rt.alloc()) else {
+    let judge = FlightJudge {
+        case,
+        alert: Alert::Horizontal,
+    };
+    let Ok(cuts) = judge.cuts(rt.alloc()) else {
         return println!(rt; "{}: out of memory", list);
     };
     let lines = fs::read_to_string(rt, list)?;
-    let found = agreement_of(&case, cuts.as_slice(), lines.as_str());
+    let found = agreement_of(&judge, cuts.as_slice(), lines.as_str());
     println!(rt;
         "{}: {} of {} pieces agree",
         list, found.agree, found.pieces

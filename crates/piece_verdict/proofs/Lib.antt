@@ -15,3 +15,4 @@ pub mod LooksLemmas
 pub mod Judged
 pub mod HiddenLemmas
 pub mod KnownLemmas
+pub mod JudgedCuts

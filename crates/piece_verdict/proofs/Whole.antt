@@ -19,14 +19,15 @@ use Rattle.raim_model.specs.Usable.{is_usable}
 use Rattle.flight_laws.proofs.Usable.{records_in_force}
 use Rattle.fix_interval.specs.Ends.{Ends}
 use Rattle.site_laws.specs.Frames.{FrameEnds}
-use Rattle.slope_laws.specs.declared.shift.Shift.TheVariants.{Horizontal}
 use Rattle.slope_laws.specs.declared.subset.SubsetVerdict.{SubsetVerdict}
 use Rattle.slope_laws.specs.Rows.{NamedRow}
 use Rattle.slope_laws.specs.ShiftSlopes.{slopes_for}
 use Rattle.verdict_laws.specs.Sights.{Sight, Visible, Hidden, Straddles, Sighted, sighted_over, one_if_possible, count_possible, or_straddling, first_straddling, with_row, rows_seen}
 use Rattle.verdict_laws.specs.PieceVerdict.{test_by, verdict_given, verdict_by, piece_verdict_by}
-use Rattle.case_laws.specs.PieceVerdict.{seen_of, piece_verdict_of}
+use Rattle.case_laws.specs.PieceVerdict.{seen_of}
 use Rattle.case_laws.specs.SightOver.{mask_of, sight_over}
+use Rattle.piece_verdict.specs.declared.alert.Alert.{Alert}
+use Rattle.piece_verdict.specs.Alerts.{shift_of, limit_of, verdict_against}
 use Rattle.piece_verdict.specs.Views.{seen_from, all_seen_from}
 
 -- ---- what is seen
@@ -78,18 +79,18 @@ enough_rows seen rows n h s e = let c = rows_count seen s in let l = ap length e
 
 -- ---- the verdict
 -- too few
-pub is_few : (c : Case) (first last : ℤ) → count_possible (seen_of c first last) < least_count c.limits.exclude → verdict.Unavailable Few ≡ piece_verdict_of c first last
+pub is_few : (alert : Alert) (c : Case) (first last : ℤ) → count_possible (seen_of c first last) < least_count c.limits.exclude → verdict.Unavailable Few ≡ verdict_against alert c first last
 unfolding piece_verdict_by verdict_by
-is_few c first last h = rw (lt-ltb (count_possible (seen_of c first last)) (least_count c.limits.exclude) h) refl
+is_few alert c first last h = rw (lt-ltb (count_possible (seen_of c first last)) (least_count c.limits.exclude) h) refl
 
 -- one straddles
-pub is_masked : (c : Case) (first last : ℤ) (prn : ℕ) → least_count c.limits.exclude ≤ count_possible (seen_of c first last) → first_straddling (seen_of c first last) ≡ Some prn → verdict.Undecided (Mask prn) ≡ piece_verdict_of c first last
+pub is_masked : (alert : Alert) (c : Case) (first last : ℤ) (prn : ℕ) → least_count c.limits.exclude ≤ count_possible (seen_of c first last) → first_straddling (seen_of c first last) ≡ Some prn → verdict.Undecided (Mask prn) ≡ verdict_against alert c first last
 unfolding piece_verdict_by verdict_by
-is_masked c first last prn h e = rw (le-ltb (count_possible (seen_of c first last)) (least_count c.limits.exclude) h, e) refl
+is_masked alert c first last prn h e = rw (le-ltb (count_possible (seen_of c first last)) (least_count c.limits.exclude) h, e) refl
 
 -- the rows are tested
-pub is_tested : (c : Case) (first last : ℤ) (rows : List NamedRow) (v : SubsetVerdict) → least_count c.limits.exclude ≤ count_possible (seen_of c first last) → first_straddling (seen_of c first last) ≡ None
-    → rows ≡ rows_seen (seen_of c first last) → v ≡ test_by (slopes_for Horizontal) c.limits c.limits.alert_mm rows → verdict_given v ≡ piece_verdict_of c first last
+pub is_tested : (alert : Alert) (c : Case) (first last : ℤ) (rows : List NamedRow) (v : SubsetVerdict) → least_count c.limits.exclude ≤ count_possible (seen_of c first last) → first_straddling (seen_of c first last) ≡ None
+    → rows ≡ rows_seen (seen_of c first last) → v ≡ test_by (slopes_for (shift_of alert)) c.limits (limit_of alert c) rows → verdict_given v ≡ verdict_against alert c first last
 unfolding piece_verdict_by verdict_by
-is_tested c first last rows v h s e t =
-    rw (le-ltb (count_possible (seen_of c first last)) (least_count c.limits.exclude) h, s) (ap verdict_given (t ∙ ap (λ rs. test_by (slopes_for Horizontal) c.limits c.limits.alert_mm rs) e))
+is_tested alert c first last rows v h s e t =
+    rw (le-ltb (count_possible (seen_of c first last)) (least_count c.limits.exclude) h, s) (ap verdict_given (t ∙ ap (λ rs. test_by (slopes_for (shift_of alert)) c.limits (limit_of alert c) rs) e))

@@ -12,7 +12,11 @@ use Rattle.raim_model.specs.Solution.{Case}
 use Rattle.flight_laws.proofs.Usable.{judged_inside, force_same}
 use Rattle.almanac_laws.proofs.Nearest.{is_one, nearest_first}
 use Rattle.verdict_laws.specs.Hold.{LeavesSight, HoldsSights}
+use Rattle.raim_model.specs.CaseRanges.{IsCase}
+use Rattle.piece_verdict.specs.declared.alert.Alert.{Alert}
+use Rattle.piece_verdict.specs.declared.alert.Alert.TheVariants.{Horizontal, Vertical}
 use Rattle.piece_verdict.specs.declared.known.Known.{Known}
+use Rattle.piece_verdict.specs.Alerts.{IsAlert, MayBeJudgedAgainst, shift_of, limit_of, verdict_against}
 use Rattle.piece_verdict.specs.Hidden.{AreHidden, KnowsHidden}
 use Rattle.piece_verdict.specs.Known.{IsSure, rows_over, factor_for, KnowsSlopes, KnowsLists, Knows}
 use Rattle.slope_laws.specs.Rows.{NamedRowsInside}
@@ -22,22 +26,26 @@ use Rattle.slope_test.proofs.MarkLemmas.{slopes_stay, lists_stay}
 use Rattle.verdict_laws.proofs.Factors.{kappa_inside}
 use Rattle.verdict_laws.proofs.Seen.{SameSeen}
 use Rattle.slope_laws.specs.ShiftSlopes.{slopes_for}
-use Rattle.slope_laws.specs.declared.shift.Shift.TheVariants.{Horizontal}
 use Rattle.slope_laws.proofs.ShiftSlopes.{shift_holds}
 use Rattle.verdict_laws.proofs.Pieces.{piece_settles, seen_inside}
-use Rattle.case_laws.specs.PieceVerdict.{seen_of, piece_verdict_of}
+use Rattle.case_laws.specs.PieceVerdict.{seen_of}
 use Rattle.case_laws.specs.SightOver.{sight_over}
 use Rattle.case_laws.proofs.Looks.{sights_hold}
 
 -- a piece inside one that may be judged may be judged
-pub case_inherits : (c : Case) (first last a b : ℤ) → MayBeJudged c first last → first ≤ℤ a → b ≤ℤ last → MayBeJudged c a b
-case_inherits c first last a b p low high = judged_inside c first last a b p low high
+pub case_inherits : (alert : Alert) (c : Case) (first last a b : ℤ) → MayBeJudgedAgainst alert c first last → first ≤ℤ a → b ≤ℤ last → MayBeJudgedAgainst alert c a b
+case_inherits alert c first last a b p low high = record { judged = judged_inside c first last a b p.judged low high; held = p.held }
+
+-- the alert limit is some millimetres
+pub some_limit : (alert : Alert) → IsAlert alert → (c : Case) → IsCase c → 1 ≤ limit_of alert c
+some_limit Horizontal a c i = i.limits.alert.0
+some_limit (Vertical limit_mm) a c i = a.0
 
 -- a certain verdict is that of each piece inside
-pub case_settles : (c : Case) (first last a b : ℤ) → MayBeJudged c first last → is_certain (piece_verdict_of c first last) ≡ true → first ≤ℤ a → a ≤ℤ b → b ≤ℤ last
-    → piece_verdict_of c a b ≡ piece_verdict_of c first last
-case_settles c first last a b p certain low ordered high =
-    piece_settles (slopes_for Horizontal) (shift_holds Horizontal) c c.limits.alert_mm p.case.limits.alert.0 (sight_over c) (sights_hold c p.case) first last a b p.piece certain low ordered high
+pub case_settles : (alert : Alert) (c : Case) (first last a b : ℤ) → MayBeJudgedAgainst alert c first last → is_certain (verdict_against alert c first last) ≡ true → first ≤ℤ a → a ≤ℤ b → b ≤ℤ last
+    → verdict_against alert c a b ≡ verdict_against alert c first last
+case_settles alert c first last a b p certain low ordered high =
+    piece_settles (slopes_for (shift_of alert)) (shift_holds (shift_of alert)) c (limit_of alert c) (some_limit alert p.held c p.judged.case) (sight_over c) (sights_hold c p.judged.case) first last a b p.judged.piece certain low ordered high
 
 -- the almanac in force is one of several
 force_listed : (t : ℤ) (almanacs : List (List AlmRecord)) → 1 ≤ length almanacs → Contains almanacs (in_force t almanacs)
@@ -61,37 +69,37 @@ same_inside : (c : Case) (marks : List Bool) (first last a b : ℤ) → MayBeJud
 same_inside c marks first last a b p sure low ordered high i t = seen_inside c (sight_over c) (sights_hold c p.case) first last a b p.piece low ordered high (sure i t)
 
 -- the slopes that pass over a piece do so over each piece inside
-slopes_inside : (c : Case) (marks : List Bool) (first last a b : ℤ) → MayBeJudged c first last → KnowsSlopes c marks first last → first ≤ℤ a → a ≤ℤ b → b ≤ℤ last → KnowsSlopes c marks a b
-slopes_inside c marks first last a b p knows low ordered high =
-    let same = same_inside c marks first last a b p knows.sure low ordered high in
+slopes_inside : (alert : Alert) (c : Case) (marks : List Bool) (first last a b : ℤ) → MayBeJudgedAgainst alert c first last → KnowsSlopes alert c marks first last → first ≤ℤ a → a ≤ℤ b → b ≤ℤ last → KnowsSlopes alert c marks a b
+slopes_inside alert c marks first last a b p knows low ordered high =
+    let same = same_inside c marks first last a b p.judged knows.sure low ordered high in
     record {
       sure = λ i t. (same i t).none;
       pass = λ i row lt t.
           let inside : NamedRowsInside (rows_over c a b) (rows_over c first last) = (same i t).rows in
           let n : length (rows_over c a b) ≡ length (rows_over c first last) = inside_length (rows_over c a b) (rows_over c first last) inside in
-          subst (λ m. SlopesPass Horizontal (rows_over c a b) (factor_for c m) marks) (sym n)
-          (slopes_stay Horizontal (rows_over c a b) (rows_over c first last) (factor_for c (length (rows_over c first last))) marks (kappa_inside c.limits c.limits.alert_mm (length (rows_over c first last)) p.case.limits.alert.0) inside knows.pass)
+          subst (λ m. SlopesPass (shift_of alert) (rows_over c a b) (factor_for alert c m) marks) (sym n)
+          (slopes_stay (shift_of alert) (rows_over c a b) (rows_over c first last) (factor_for alert c (length (rows_over c first last))) marks (kappa_inside c.limits (limit_of alert c) (length (rows_over c first last)) (some_limit alert p.held c p.judged.case)) inside knows.pass)
           i row lt t;
     }
 
 -- and so do the lists without a row
-lists_inside : (c : Case) (marks : List Bool) (first last a b : ℤ) → MayBeJudged c first last → KnowsLists c marks first last → first ≤ℤ a → a ≤ℤ b → b ≤ℤ last → KnowsLists c marks a b
-lists_inside c marks first last a b p knows low ordered high =
-    let same = same_inside c marks first last a b p knows.sure low ordered high in
+lists_inside : (alert : Alert) (c : Case) (marks : List Bool) (first last a b : ℤ) → MayBeJudgedAgainst alert c first last → KnowsLists alert c marks first last → first ≤ℤ a → a ≤ℤ b → b ≤ℤ last → KnowsLists alert c marks a b
+lists_inside alert c marks first last a b p knows low ordered high =
+    let same = same_inside c marks first last a b p.judged knows.sure low ordered high in
     record {
       sure = λ i t. (same i t).none;
       pass = λ i lt t.
           let inside : NamedRowsInside (rows_over c a b) (rows_over c first last) = (same i t).rows in
           let n : length (rows_over c a b) ≡ length (rows_over c first last) = inside_length (rows_over c a b) (rows_over c first last) inside in
-          subst (λ m. ListsPass Horizontal (rows_over c a b) (factor_for c (m - 1)) marks) (sym n)
-          (lists_stay Horizontal (rows_over c a b) (rows_over c first last) (factor_for c (length (rows_over c first last) - 1)) marks (kappa_inside c.limits c.limits.alert_mm (length (rows_over c first last) - 1) p.case.limits.alert.0) inside knows.pass)
+          subst (λ m. ListsPass (shift_of alert) (rows_over c a b) (factor_for alert c (m - 1)) marks) (sym n)
+          (lists_stay (shift_of alert) (rows_over c a b) (rows_over c first last) (factor_for alert c (length (rows_over c first last) - 1)) marks (kappa_inside c.limits (limit_of alert c) (length (rows_over c first last) - 1) (some_limit alert p.held c p.judged.case)) inside knows.pass)
           i lt t;
     }
 
 -- what is known of a piece is known of each piece inside
-pub known_stays : (c : Case) (known : Known) (first last a b : ℤ) → MayBeJudged c first last → Knows c known first last → first ≤ℤ a → a ≤ℤ b → b ≤ℤ last → Knows c known a b
-known_stays c known first last a b p knows low ordered high = record {
-  hidden = hidden_stays c known.hidden.places first last a b p knows.hidden low ordered high;
-  slopes = slopes_inside c known.slopes.places first last a b p knows.slopes low ordered high;
-  lists = lists_inside c known.lists.places first last a b p knows.lists low ordered high;
+pub known_stays : (alert : Alert) (c : Case) (known : Known) (first last a b : ℤ) → MayBeJudgedAgainst alert c first last → Knows alert c known first last → first ≤ℤ a → a ≤ℤ b → b ≤ℤ last → Knows alert c known a b
+known_stays alert c known first last a b p knows low ordered high = record {
+  hidden = hidden_stays c known.hidden.places first last a b p.judged knows.hidden low ordered high;
+  slopes = slopes_inside alert c known.slopes.places first last a b p knows.slopes low ordered high;
+  lists = lists_inside alert c known.lists.places first last a b p knows.lists low ordered high;
 }

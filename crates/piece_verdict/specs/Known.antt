@@ -3,13 +3,14 @@
 use Rattle.std.specs.Prelude.{◌≡◌, ℕ, ◌-◌, ℤ, Bool, true, false, List, length, slice_index_or, None}
 use Rattle.raim_model.specs.Solution.{Case}
 use Rattle.fix_interval.specs.Ends.{Ends}
-use Rattle.slope_laws.specs.declared.shift.Shift.TheVariants.{Horizontal}
 use Rattle.slope_laws.specs.Rows.{NamedRow}
 use Rattle.slope_test.specs.Marks.{SlopesPass, ListsPass}
 use Rattle.verdict_laws.specs.Sights.{first_straddling, rows_seen}
 use Rattle.verdict_laws.specs.PieceVerdict.{kappa_over}
 use Rattle.case_laws.specs.PieceVerdict.{seen_of}
+use Rattle.piece_verdict.specs.declared.alert.Alert.{Alert}
 use Rattle.piece_verdict.specs.declared.known.Known.{Known}
+use Rattle.piece_verdict.specs.Alerts.{shift_of, limit_of}
 use Rattle.piece_verdict.specs.Hidden.{KnowsHidden}
 
 -- where anything is marked, each usable satellite is visible or hidden throughout
@@ -21,20 +22,20 @@ abbrev pub rows_over : Case → (first last : ℤ) → List NamedRow
 rows_over c first last = rows_seen (seen_of c first last)
 
 -- the factor for n rows
-abbrev pub factor_for : Case → (n : ℕ) → Ends
-factor_for c n = kappa_over c.limits c.limits.alert_mm n
+abbrev pub factor_for : Alert → Case → (n : ℕ) → Ends
+factor_for alert c n = kappa_over c.limits (limit_of alert c) n
 
 -- the slopes at the marked places pass
-pub record KnowsSlopes (c : Case) (marks : List Bool) (first last : ℤ) : Type 0 where
+pub record KnowsSlopes (alert : Alert) (c : Case) (marks : List Bool) (first last : ℤ) : Type 0 where
   pub sure : IsSure c marks first last
-  pub pass : SlopesPass Horizontal (rows_over c first last) (factor_for c (length (rows_over c first last))) marks
+  pub pass : SlopesPass (shift_of alert) (rows_over c first last) (factor_for alert c (length (rows_over c first last))) marks
 
 -- the lists without the row at a marked place pass
-pub record KnowsLists (c : Case) (marks : List Bool) (first last : ℤ) : Type 0 where
+pub record KnowsLists (alert : Alert) (c : Case) (marks : List Bool) (first last : ℤ) : Type 0 where
   pub sure : IsSure c marks first last
-  pub pass : ListsPass Horizontal (rows_over c first last) (factor_for c (length (rows_over c first last) - 1)) marks
+  pub pass : ListsPass (shift_of alert) (rows_over c first last) (factor_for alert c (length (rows_over c first last) - 1)) marks
 
-pub record Knows (c : Case) (known : Known) (first last : ℤ) : Type 0 where
+pub record Knows (alert : Alert) (c : Case) (known : Known) (first last : ℤ) : Type 0 where
   pub hidden : KnowsHidden c known.hidden.places first last
-  pub slopes : KnowsSlopes c known.slopes.places first last
-  pub lists : KnowsLists c known.lists.places first last
+  pub slopes : KnowsSlopes alert c known.slopes.places first last
+  pub lists : KnowsLists alert c known.lists.places first last

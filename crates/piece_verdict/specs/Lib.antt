@@ -4,6 +4,7 @@ pub mod KeptCases
 pub mod Seen
 pub mod Looks
 pub mod Views
+pub mod Alerts
 pub mod Hidden
 pub mod Known
 pub mod CaseLaws

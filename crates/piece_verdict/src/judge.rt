@@ -1,20 +1,24 @@
 // Judging pieces of time.
-ghost use Rattle.std.specs.Prelude.{◌≡◌, ℕ, ℤ, ◌+◌, ◌≤ℤ◌, true};
+ghost use Rattle.std.specs.Prelude.{◌≡◌, ℕ, ℤ, ◌+◌, ◌≤ℤ◌, true, IfOk};
 ghost use Rattle.raim_model.specs.CaseCuts.{MayBeJudged};
 ghost use Rattle.raim_model.specs.Judgements.{Answers, is_certain};
 ghost use Rattle.raim_model.specs.Level.{Level};
-ghost use Rattle.raim_model.specs.Solution.{Solution, HasVerdict};
+ghost use Rattle.raim_model.specs.CaseCuts.{CutsFlight};
+ghost use Rattle.raim_model.specs.Cuts.{AreCuts};
+ghost use Rattle.raim_model.specs.Solution.{Solution};
 ghost use Rattle.verdict_laws.specs.NearMask.{IsNearMaskAlways};
-ghost use Rattle.case_laws.specs.PieceVerdict.{piece_verdict_of};
+ghost use Rattle.piece_verdict.specs.Alerts.{IsAlert, MayBeJudgedAgainst, verdict_against, HasVerdictAgainst};
 ghost use Rattle.piece_verdict.specs.CaseLaws.{case_inherits, case_settles, known_stays};
 ghost use Rattle.piece_verdict.specs.Known.{Knows};
 
+use crate::alert::Alert;
 use crate::case::Case;
 use crate::found::Found;
 use crate::known::Known;
 use crate::seen::Seen;
 use crate::slopes::{given, test};
-use raim_model::{Cmp, Piece, Verdict, Why};
+use raim_model::{Cmp, OutOfMemory, Piece, Verdict, Why};
+use std::alloc::Global;
 use std::sync::ledger::Ledger;
 use step_counter::Steps;
 use time_split::{Judge, ToldJudge};
@@ -38,14 +42,22 @@ fn answer(verdict: Verdict, first: i64, last: i64) -> Piece
 }
 
 impl Case {
-    /// The verdict on a piece of which this is known; what is found of it is known then. The rows are kept in `seen`, whatever stood
-    /// there.
-    fn verdict(&self, first: i64, last: i64, known: &mut Known, seen: &mut Seen) -> Verdict
+    /// The verdict on a piece of which this is known, held against this; what is found of it is known then. The rows are kept in
+    /// `seen`, whatever stood there.
+    fn verdict(
+        &self,
+        alert: Alert,
+        first: i64,
+        last: i64,
+        known: &mut Known,
+        seen: &mut Seen,
+    ) -> Verdict
+        requires alert { IsAlert alert }
         requires ordered { first ≤ℤ last }
         requires rule { MayBeJudged self.now first last }
-        requires known { Knows self.now known.old first last }
-        ensures value { result ≡ piece_verdict_of self.now first last }
-        ensures known { Knows self.now known.new first last }
+        requires known { Knows alert self.now known.old first last }
+        ensures value { result ≡ verdict_against alert self.now first last }
+        ensures known { Knows alert self.now known.new first last }
     {
         seen.clear();
         match self.looked(first, last, &mut known.hidden, seen) {
@@ -53,6 +65,7 @@ impl Case {
             Found::Straddle(prn) => Verdict::Undecided(Cmp::Mask(prn)),
             Found::Rows => given(test(
                 &self.limits,
+                alert,
                 seen.rows.as_slice(),
                 &mut known.slopes,
                 &mut known.lists,
@@ -61,46 +74,65 @@ impl Case {
     }
 }
 
-impl Judge for Case {
-    ghost verdict = { λ case. piece_verdict_of case };
+/// Judges pieces of a case's flight, held against this alert limit.
+#[derive(Drop)]
+pub struct FlightJudge {
+    pub case: Case,
+    pub alert: Alert,
+}
 
-    ghost rule = { λ case. MayBeJudged case };
+impl FlightJudge {
+    /// The cuts of the case's flight, as `Case::cuts` has them.
+    pub fn cuts(&self, alloc: Global) -> Result<Vec<i64>, OutOfMemory>
+        requires { IsAlert self.now.alert }
+        ensures cuts { IfOk result (λ cuts. CutsFlight self.now.case cuts.items) }
+        // each root piece between them may be judged
+        ensures root_pieces { IfOk result (λ cuts. AreCuts (MayBeJudgedAgainst self.now.alert self.now.case) cuts.items) }
+    {
+        self.case.cuts(alloc)
+    }
+}
+
+impl Judge for FlightJudge {
+    ghost verdict = { λ judge. verdict_against judge.alert judge.case };
+
+    ghost rule = { λ judge. MayBeJudgedAgainst judge.alert judge.case };
 
     fn judge<L: Ledger>(&self, first: i64, last: i64, steps: &mut Steps<L>) -> Piece
         requires ordered { first ≤ℤ last }
-        requires rule { MayBeJudged self.now first last }
+        requires rule { MayBeJudgedAgainst self.now.alert self.now.case first last }
         // the written verdict of the piece, or that it is to be halved
-        ensures answer { Answers first last (piece_verdict_of self.now first last) result }
+        ensures answer { Answers first last (verdict_against self.now.alert self.now.case first last) result }
         ensures step { steps.new ≡ steps.old + 1 }
         // Available, or Unavailable for a reason: every solution, at every level and millisecond of the piece, has that verdict
-        ensures right { (v : Verdict) (t : ℤ) → result ≡ Piece.Decided v → is_certain v ≡ true → first ≤ℤ t → t ≤ℤ last → HasVerdict self.now t v }
+        ensures right { (v : Verdict) (t : ℤ) → result ≡ Piece.Decided v → is_certain v ≡ true → first ≤ℤ t → t ≤ℤ last
+            → HasVerdictAgainst self.now.alert self.now.case t v }
         // and there is such a solution
-        ensures exists { (N : Level) (t : ℤ) → first ≤ℤ t → t ≤ℤ last → Solution N self.now t }
+        ensures exists { (N : Level) (t : ℤ) → first ≤ℤ t → t ≤ℤ last → Solution N self.now.case t }
         // undecided by the mask: the piece is one millisecond, the satellite is usable, and every solution at every level has it
         // at 1 Mm or at the mask, to 2^-15 Mm
-        ensures near { (prn : ℕ) → result ≡ Piece.Decided (Verdict.Undecided (Cmp.Mask prn)) → (first ≡ last) × IsNearMaskAlways self.now first prn }
+        ensures near { (prn : ℕ) → result ≡ Piece.Decided (Verdict.Undecided (Cmp.Mask prn)) → (first ≡ last) × IsNearMaskAlways self.now.case first prn }
     {
         steps.tick();
         let mut known = Known::nothing();
         let mut seen = Seen::new();
-        answer(
-            self.verdict(first, last, &mut known, &mut seen),
-            first,
-            last,
-        )
+        let verdict = self
+            .case
+            .verdict(self.alert, first, last, &mut known, &mut seen);
+        answer(verdict, first, last)
     }
 
-    ghost inherits = { λ case first last a b rule low ordered high. case_inherits case first last a b rule low high };
+    ghost inherits = { λ judge first last a b rule low ordered high. case_inherits judge.alert judge.case first last a b rule low high };
 
-    ghost settles = { λ case first last a b rule certain low ordered high. case_settles case first last a b rule certain low ordered high };
+    ghost settles = { λ judge first last a b rule certain low ordered high. case_settles judge.alert judge.case first last a b rule certain low ordered high };
 }
 
-impl ToldJudge for Case {
+impl ToldJudge for FlightJudge {
     type Known = Known;
 
     type Room = Seen;
 
-    ghost knows = { λ case known first last. Knows case known first last };
+    ghost knows = { λ judge known first last. Knows judge.alert judge.case known first last };
 
     fn nothing(&self) -> Known {
         Known::nothing()
@@ -120,9 +152,9 @@ impl ToldJudge for Case {
     ) -> (Piece, Known) {
         steps.tick();
         let mut found = known;
-        let verdict = self.verdict(first, last, &mut found, room);
+        let verdict = self.case.verdict(self.alert, first, last, &mut found, room);
         (answer(verdict, first, last), found)
     }
 
-    ghost stays = { λ case known first last a b rule knows low ordered high. known_stays case known first last a b rule knows low ordered high };
+    ghost stays = { λ judge known first last a b rule knows low ordered high. known_stays judge.alert judge.case known first last a b rule knows low ordered high };
 }

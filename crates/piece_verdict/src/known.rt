@@ -1,6 +1,7 @@
 // What is known of a piece of time.
 ghost use Rattle.std.specs.Prelude.{ℤ};
 ghost use Rattle.raim_model.specs.Solution.{Case};
+ghost use Rattle.piece_verdict.specs.declared.alert.Alert.{Alert};
 ghost use Rattle.piece_verdict.specs.Known.{Knows};
 
 use slope_test::Marks;
@@ -19,7 +20,7 @@ pub struct Known {
 impl Known {
     /// Nothing.
     pub(crate) fn nothing() -> Known
-        ensures { (c : Case) (first last : ℤ) → Knows c result first last }
+        ensures { (alert : Alert) (c : Case) (first last : ℤ) → Knows alert c result first last }
     {
         Known {
             hidden: Marks::none(),

@@ -1,6 +1,7 @@
-//! The verdict on a piece of time of a flight: `Case` judges pieces for `time_split`.
+//! The verdict on a piece of time of a flight: `FlightJudge` judges pieces for `time_split`, held against one alert limit or another.
 #![tactic(auto)]
 
+mod alert;
 mod case;
 mod constellation;
 mod cuts;
@@ -19,6 +20,8 @@ mod vertical;
 mod views;
 mod weight;
 
+pub use alert::Alert;
 pub use case::Case;
+pub use judge::FlightJudge;
 pub use known::Known;
 pub use looks::Looks;

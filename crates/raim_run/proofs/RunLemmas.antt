@@ -30,9 +30,9 @@ use Rattle.demo_texts.proofs.TotalLemmas.{countable}
 use Rattle.flight_files.specs.declared.FlightFiles.{FlightFiles}
 use Rattle.flight_files.specs.declared.Stop.{Stop}
 use Rattle.flight_files.specs.declared.Stop.TheVariants as stop
-use Rattle.flight_forecast.specs.declared.NoForecast.{NoForecast}
-use Rattle.flight_forecast.specs.declared.NoForecast.TheVariants as none
-use Rattle.flight_forecast.specs.declared.Alert.{Alert}
+use Rattle.raim_model.specs.declared.SplitFault.{SplitFault}
+use Rattle.raim_model.specs.declared.SplitFault.TheVariants as none
+use Rattle.piece_verdict.specs.declared.Alert.{Alert}
 use Rattle.flight_forecast.specs.InOrder.{CoverInOrder}
 use Rattle.flight_forecast.specs.Steps.{HasCuts}
 use Rattle.flight_forecast.specs.Words.{InRun, LiesInRun, IsNearMaskAlways, verdict_against, HasVerdictAgainst}
@@ -46,7 +46,7 @@ use Rattle.raim_run.specs.Cases.{IsCaseOf}
 use Rattle.raim_run.specs.Causes.{NoRunsCause}
 use Rattle.raim_run.specs.Others.{StopsAtLast, AskedOthers}
 use Rattle.raim_run.specs.Printed.{HasNote}
-use Rattle.raim_run.specs.Statuses.{stop_status, no_forecast_status}
+use Rattle.raim_run.specs.Statuses.{stop_status, fault_status}
 use Rattle.raim_run.specs.Steps.{AreSteps}
 
 -- the last file that was touched, and the calls, where a file stopped the reading
@@ -73,7 +73,7 @@ stopped_calls (PredictionUp paths vertical_mm) (stop.TooLong file) made h = inr 
 stopped_calls (PredictionUp paths vertical_mm) (stop.Refused file line why) made h = inl h
 
 -- the calls where all four files were read, and there is no forecast
-pub judged_calls : (asked : Asked) (files : FlightFiles) (reason : NoForecast) (made : List Call) → FilesOfCalls asked (Ok files) made → AskedCalls asked (no_forecast_status reason) made
+pub judged_calls : (asked : Asked) (files : FlightFiles) (reason : SplitFault) (made : List Call) → FilesOfCalls asked (Ok files) made → AskedCalls asked (fault_status reason) made
 judged_calls (Demonstration number) files reason made h = h
 judged_calls (Prediction paths) files (none.Overflow at prn) made h = h
 judged_calls (Prediction paths) files none.TooManyRuns made h = h
@@ -125,10 +125,10 @@ module _ (asked : Asked) (holds : Text → Option Text) (c : Case) (is : IsCaseO
   }
 
   -- why a case has no forecast
-  pub unforecast : (before now : FileNo → ℕ) (reason : NoForecast)
+  pub unforecast : (before now : FileNo → ℕ) (reason : SplitFault)
       → ((at : ℤ) (prn : ℕ) → reason ≡ none.Overflow at prn → OverflowsFirst (verdict_against alert c) (flight_of c.route).first (flight_of c.route).end at prn)
       → (reason ≡ none.TooManyRuns → HasTooManyRuns (verdict_against alert c) (flight_of c.route).first (flight_of c.route).end)
-      → NoRunsCause asked holds before now (no_forecast_status reason)
+      → NoRunsCause asked holds before now (fault_status reason)
   unforecast before now (none.Overflow at prn) overflows many = record {
     case = c;
     accepted = is;
@@ -141,9 +141,9 @@ module _ (asked : Asked) (holds : Text → Option Text) (c : Case) (is : IsCaseO
   }
   unforecast before now none.Memory overflows many = tt
 
-  pub noted : (reason : NoForecast) → AreInstants c.limits.leap c.route
+  pub noted : (reason : SplitFault) → AreInstants c.limits.leap c.route
       → ((at : ℤ) (prn : ℕ) → reason ≡ none.Overflow at prn → OverflowsFirst (verdict_against alert c) (flight_of c.route).first (flight_of c.route).end at prn)
-      → HasNote asked holds c.limits.leap (no_forecast_status reason)
+      → HasNote asked holds c.limits.leap (fault_status reason)
   noted (none.Overflow at prn) instants overflows = record {
     case = c;
     accepted = is;

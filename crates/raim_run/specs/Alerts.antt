@@ -1,6 +1,6 @@
 -- What the verdicts that are asked for are held against.
-use Rattle.flight_forecast.specs.declared.Alert.{Alert}
-use Rattle.flight_forecast.specs.declared.Alert.TheVariants.{Horizontal, Vertical}
+use Rattle.piece_verdict.specs.declared.Alert.{Alert}
+use Rattle.piece_verdict.specs.declared.Alert.TheVariants.{Horizontal, Vertical}
 use Rattle.command_words.specs.Asked.{Asked}
 use Rattle.command_words.specs.Asked.Asked.{Prediction, Demonstration, PredictionUp}
 

@@ -3,8 +3,8 @@ use Rattle.std.specs.Prelude.{ℕ}
 use Rattle.raim_model.specs.declared.TextWhy.TheVariants.{FileTooLong}
 use Rattle.flight_files.specs.declared.Stop.{Stop}
 use Rattle.flight_files.specs.declared.Stop.TheVariants as stop
-use Rattle.flight_forecast.specs.declared.NoForecast.{NoForecast}
-use Rattle.flight_forecast.specs.declared.NoForecast.TheVariants as none
+use Rattle.raim_model.specs.declared.SplitFault.{SplitFault}
+use Rattle.raim_model.specs.declared.SplitFault.TheVariants as none
 use Rattle.raim_run.specs.declared.status.Status.{Status}
 use Rattle.raim_run.specs.declared.status.Status.TheVariants.{Done, Usage, Refused, ReadFault, WriteFault, Overflow, TooManyRuns, Memory}
 
@@ -26,7 +26,7 @@ stop_status (stop.TooLong file) = Refused file 0 FileTooLong
 stop_status (stop.Refused file line why) = Refused file line why
 
 -- the status of a run that has no forecast
-abbrev pub no_forecast_status : NoForecast → Status
-no_forecast_status (none.Overflow at prn) = Overflow at prn
-no_forecast_status none.TooManyRuns = TooManyRuns
-no_forecast_status none.Memory = Memory
+abbrev pub fault_status : SplitFault → Status
+fault_status (none.Overflow at prn) = Overflow at prn
+fault_status none.TooManyRuns = TooManyRuns
+fault_status none.Memory = Memory

@@ -9,7 +9,7 @@ ghost use Rattle.raim_run.specs.Calls.{RunsCalls};
 ghost use Rattle.raim_run.specs.Causes.{NoRunsCause};
 ghost use Rattle.raim_run.specs.Others.{RunsOthers};
 ghost use Rattle.raim_run.specs.Printed.{ArePrintable, HasNote};
-ghost use Rattle.raim_run.specs.Statuses.{stop_status, no_forecast_status};
+ghost use Rattle.raim_run.specs.Statuses.{stop_status, fault_status};
 ghost use Rattle.raim_run.specs.Steps.{AreSteps};
 
 use crate::Status;
@@ -17,9 +17,9 @@ use crate::ending::Ending;
 use crate::files::read_asked;
 use command_words::Request;
 use flight_files::Stop;
-use flight_forecast::{Alert, NoForecast, forecast_against};
+use flight_forecast::{Alert, forecast_against};
 use raim_base::Desk;
-use raim_model::{Run, TextWhy};
+use raim_model::{Run, SplitFault, TextWhy};
 use std::alloc::Global;
 use std::sync::ledger::Ledger;
 use step_counter::Steps;
@@ -48,13 +48,13 @@ pub(crate) fn status_of_stop(stop: Stop) -> Status
 }
 
 // The status of a run that has no forecast.
-fn status_of_no_forecast(reason: NoForecast) -> Status
-    ensures { result ≡ no_forecast_status reason }
+fn status_of_fault(reason: SplitFault) -> Status
+    ensures { result ≡ fault_status reason }
 {
     match reason {
-        NoForecast::Overflow { at, prn } => Status::Overflow { at, prn },
-        NoForecast::TooManyRuns => Status::TooManyRuns,
-        NoForecast::Memory => Status::Memory,
+        SplitFault::Overflow { at, prn } => Status::Overflow { at, prn },
+        SplitFault::TooManyRuns => Status::TooManyRuns,
+        SplitFault::Memory => Status::Memory,
     }
 }
 
@@ -107,7 +107,7 @@ pub(crate) fn runs_asked<D: Desk, L: Ledger>(
     ) {
         Ok(runs) => Ok(FlightRuns { runs, leap }),
         Err(reason) => {
-            let status = status_of_no_forecast(reason);
+            let status = status_of_fault(reason);
             Err(Ending { status, leap })
         }
     }

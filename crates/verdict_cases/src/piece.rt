@@ -1,13 +1,13 @@
 // Judging one piece of a case's flight.
 ghost use Rattle.std.specs.Prelude.{◌≡◌, ◌≤ℤ◌, IsTrue, IfSome};
 ghost use Rattle.case_laws.specs.PieceVerdict.{seen_of};
+ghost use Rattle.piece_verdict.specs.Alerts.{MayBeJudgedAgainst};
 ghost use Rattle.piece_verdict.specs.Looks.{AreLooks};
-ghost use Rattle.raim_model.specs.CaseCuts.{MayBeJudged};
 ghost use Rattle.raim_model.specs.Cuts.{AreCuts};
 ghost use Rattle.raim_model.specs.Judgements.{Answers};
 ghost use Rattle.raim_model.specs.PointVerdict.{least_count};
 
-use piece_verdict::{Case, Looks};
+use piece_verdict::{FlightJudge, Looks};
 use raim_model::Piece;
 use std::sync::ledger::Ledger;
 use step_counter::Steps;
@@ -50,17 +50,17 @@ pub fn judge_within<J: Judge, L: Ledger>(
 
 /// What is seen over a piece of a case's flight, where it lies between two neighbours of the cuts.
 pub fn looks_within<L: Ledger>(
-    case: &Case,
+    judge: &FlightJudge,
     cuts: &[i64],
     first: i64,
     last: i64,
     steps: &mut Steps<L>,
 ) -> Option<Looks>
-    requires { AreCuts (MayBeJudged case.now) cuts.now }
-    ensures { IfSome result (AreLooks (least_count case.now.limits.exclude) (seen_of case.now first last)) }
+    requires { AreCuts (MayBeJudgedAgainst judge.now.alert judge.now.case) cuts.now }
+    ensures { IfSome result (AreLooks (least_count judge.now.case.limits.exclude) (seen_of judge.now.case first last)) }
 {
-    if lies_within(case, cuts, first, last) {
-        Some(case.looks(first, last, steps))
+    if lies_within(judge, cuts, first, last) {
+        Some(judge.case.looks(first, last, steps))
     } else {
         None
     }

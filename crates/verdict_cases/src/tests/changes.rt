@@ -1,13 +1,13 @@
 // Flights in which the verdict changes: halving gives the runs of the single milliseconds, each judged by itself, and these are those
 // that an independent evaluation in whole numbers of any size has (`oracle/table_of_flights.py`).
 
-ghost use Rattle.raim_model.specs.CaseCuts.{MayBeJudged};
 ghost use Rattle.raim_model.specs.Cuts.{AreCuts};
+ghost use Rattle.piece_verdict.specs.Alerts.{MayBeJudgedAgainst};
 
 use crate::tests::flights::{Flight, HALF, WEEK, are_runs, case_of, flight_of};
 use crate::tests::runs::judged;
 use flight_samples::{EIGHT, sem_almanac};
-use piece_verdict::Case;
+use piece_verdict::{Alert, FlightJudge};
 use raim_model::{Cmp, Run, SplitFault, Verdict, Why};
 use sample_judges::split_each_afresh;
 use std::alloc::Global;
@@ -16,10 +16,10 @@ use std::sync::ledger::Blank;
 use std::test::Fail;
 
 /// What judging each millisecond of a case's flight by itself makes of it.
-fn judged_singly(alloc: Global, case: &Case, cuts: &[i64]) -> Result<Vec<Run>, SplitFault>
-    requires { AreCuts (MayBeJudged case.now) cuts.now }
+fn judged_singly(alloc: Global, judge: &FlightJudge, cuts: &[i64]) -> Result<Vec<Run>, SplitFault>
+    requires { AreCuts (MayBeJudgedAgainst judge.now.alert judge.now.case) cuts.now }
 {
-    split_each_afresh::<Case, Brand>(alloc, case, cuts, Blank::new(1))
+    split_each_afresh::<FlightJudge, Brand>(alloc, judge, cuts, Blank::new(1))
 }
 
 /// Whether halving a flight and judging each of its milliseconds give these runs, from `from` on.
@@ -27,11 +27,15 @@ fn both_give(alloc: Global, flight: Flight, from: i64, expected: &[(i64, i64, Ve
     let Some(case) = case_of(alloc, flight) else {
         return false;
     };
-    let Ok(cuts) = case.cuts(alloc) else {
+    let judge = FlightJudge {
+        case,
+        alert: Alert::Horizontal,
+    };
+    let Ok(cuts) = judge.cuts(alloc) else {
         return false;
     };
-    let halved = judged(alloc, &case, cuts.as_slice());
-    let singly = judged_singly(alloc, &case, cuts.as_slice());
+    let halved = judged(alloc, &judge, cuts.as_slice());
+    let singly = judged_singly(alloc, &judge, cuts.as_slice());
     match (halved, singly) {
         (Ok(runs), Ok(others)) => {
             are_runs(runs.as_slice(), from, expected) && runs.as_slice() == others.as_slice()

@@ -2,13 +2,13 @@
 // any size has them (`oracle/table_of_looks.py`).
 
 ghost use Rattle.std.specs.Prelude.{◌≡◌, ◌≤◌};
-ghost use Rattle.raim_model.specs.CaseCuts.{MayBeJudged};
+ghost use Rattle.piece_verdict.specs.Alerts.{IsAlert, MayBeJudgedAgainst};
 ghost use Rattle.raim_model.specs.Cuts.{AreCuts};
 
 use crate::piece::looks_within;
 use crate::tests::flights::{Flight, WEEK, case_of, flight_of};
 use flight_samples::{EIGHT, FIVE, MILD, OVERHEAD, SECOND, sem_almanac};
-use piece_verdict::{Case, Looks};
+use piece_verdict::{Alert, FlightJudge, Looks};
 use raim_model::{Cmp, Why};
 use slope_laws::{Shift, SubsetVerdict};
 use slope_test::detect_over;
@@ -20,35 +20,37 @@ use std::test::Fail;
 use step_counter::Steps;
 
 fn looked_counted<L: Ledger>(
-    case: &Case,
+    judge: &FlightJudge,
     cuts: &[i64],
     first: i64,
     last: i64,
     blank: Blank,
 ) -> Option<Looks>
-    requires cuts { AreCuts (MayBeJudged case.now) cuts.now }
+    requires cuts { AreCuts (MayBeJudgedAgainst judge.now.alert judge.now.case) cuts.now }
     requires name { blank.name ≡ L.name }
     requires parts { blank.parts ≡ L.parts }
     requires some { 1 ≤ blank.parts }
 {
     let mut steps: Steps<L> = Steps::new(blank);
-    looks_within(case, cuts, first, last, &mut steps)
+    looks_within(judge, cuts, first, last, &mut steps)
 }
 
 /// What is seen over a piece.
-fn looked(case: &Case, cuts: &[i64], first: i64, last: i64) -> Option<Looks>
-    requires { AreCuts (MayBeJudged case.now) cuts.now }
+fn looked(judge: &FlightJudge, cuts: &[i64], first: i64, last: i64) -> Option<Looks>
+    requires { AreCuts (MayBeJudgedAgainst judge.now.alert judge.now.case) cuts.now }
 {
-    looked_counted::<Brand>(case, cuts, first, last, Blank::new(1))
+    looked_counted::<Brand>(judge, cuts, first, last, Blank::new(1))
 }
 
 /// What is seen over a piece, which is given from the begin of the week on.
-fn looked_from_week(alloc: Global, case: &Case, first: i64, last: i64) -> Option<Looks> {
-    let Ok(cuts) = case.cuts(alloc) else {
+fn looked_from_week(alloc: Global, judge: &FlightJudge, first: i64, last: i64) -> Option<Looks>
+    requires { IsAlert judge.now.alert }
+{
+    let Ok(cuts) = judge.cuts(alloc) else {
         return None;
     };
     looked(
-        case,
+        judge,
         cuts.as_slice(),
         first.wrapping_add(WEEK),
         last.wrapping_add(WEEK),
@@ -89,7 +91,9 @@ fn say(mut words: SplitWhitespace, looks: &Looks) -> bool {
 }
 
 /// Whether what is seen is what a line says: the first and the last millisecond from the begin of the week on, and what is seen.
-fn agrees(alloc: Global, case: &Case, line: &str) -> bool {
+fn agrees(alloc: Global, judge: &FlightJudge, line: &str) -> bool
+    requires { IsAlert judge.now.alert }
+{
     let mut words = line.split_whitespace();
     let Some(first) = number(words.next()) else {
         return false;
@@ -97,7 +101,7 @@ fn agrees(alloc: Global, case: &Case, line: &str) -> bool {
     let Some(last) = number(words.next()) else {
         return false;
     };
-    match looked_from_week(alloc, case, first, last) {
+    match looked_from_week(alloc, judge, first, last) {
         Some(looks) => say(words, &looks),
         None => false,
     }
@@ -105,10 +109,19 @@ fn agrees(alloc: Global, case: &Case, line: &str) -> bool {
 
 /// Whether what is seen on a flight is what the lines say.
 fn has_looks(alloc: Global, flight: Flight, lines: &str) -> bool {
-    match case_of(alloc, flight) {
-        Some(case) => lines.lines().all(|line| agrees(alloc, &case, line)),
-        None => false,
+    let Some(case) = case_of(alloc, flight) else {
+        return false;
+    };
+    let judge = FlightJudge {
+        case,
+        alert: Alert::Horizontal,
+    };
+    for line in lines.lines() {
+        if !agrees(alloc, &judge, line) {
+            return false;
+        }
     }
+    true
 }
 
 /// What the test upwards makes of the rows over a piece, against an alert limit in millimetres.
@@ -120,7 +133,11 @@ fn upwards(
     limit_mm: u32,
 ) -> Option<SubsetVerdict> {
     let case = case_of(alloc, flight)?;
-    let Some(Looks::Rows(rows)) = looked_from_week(alloc, &case, first, last) else {
+    let judge = FlightJudge {
+        case,
+        alert: Alert::Horizontal,
+    };
+    let Some(Looks::Rows(rows)) = looked_from_week(alloc, &judge, first, last) else {
         return None;
     };
     let n = rows.len();
@@ -130,7 +147,7 @@ fn upwards(
     Some(detect_over(
         Shift::Vertical,
         rows.as_slice(),
-        case.kappa_over(n, limit_mm),
+        judge.case.kappa_over(n, limit_mm),
     ))
 }
 

@@ -1,12 +1,12 @@
 // The runs and the cuts of small flights, as an independent evaluation in whole numbers of any size has them
 // (`oracle/table_of_flights.py`).
 
-ghost use Rattle.raim_model.specs.CaseCuts.{MayBeJudged};
 ghost use Rattle.raim_model.specs.Cuts.{AreCuts};
+ghost use Rattle.piece_verdict.specs.Alerts.{MayBeJudgedAgainst};
 
 use crate::tests::flights::{Flight, WEEK, are_runs, case_of, flight_of};
 use flight_samples::*;
-use piece_verdict::Case;
+use piece_verdict::{Alert, FlightJudge};
 use raim_model::{Cmp, Run, SplitFault, Verdict, Why};
 use sample_judges::split_afresh;
 use std::alloc::Global;
@@ -15,19 +15,27 @@ use std::sync::ledger::Blank;
 use std::test::Fail;
 
 /// What halving makes of a case's flight.
-pub(crate) fn judged(alloc: Global, case: &Case, cuts: &[i64]) -> Result<Vec<Run>, SplitFault>
-    requires { AreCuts (MayBeJudged case.now) cuts.now }
+pub(crate) fn judged(
+    alloc: Global,
+    judge: &FlightJudge,
+    cuts: &[i64],
+) -> Result<Vec<Run>, SplitFault>
+    requires { AreCuts (MayBeJudgedAgainst judge.now.alert judge.now.case) cuts.now }
 {
-    split_afresh::<Case, Brand>(alloc, case, cuts, Blank::new(1))
+    split_afresh::<FlightJudge, Brand>(alloc, judge, cuts, Blank::new(1))
 }
 
 /// What halving makes of a flight; nothing where it is no case.
 fn runs_of(alloc: Global, flight: Flight) -> Option<Result<Vec<Run>, SplitFault>> {
     let case = case_of(alloc, flight)?;
-    let Ok(cuts) = case.cuts(alloc) else {
+    let judge = FlightJudge {
+        case,
+        alert: Alert::Horizontal,
+    };
+    let Ok(cuts) = judge.cuts(alloc) else {
         return None;
     };
-    Some(judged(alloc, &case, cuts.as_slice()))
+    Some(judged(alloc, &judge, cuts.as_slice()))
 }
 
 /// Whether a flight has these runs, from `from` on.

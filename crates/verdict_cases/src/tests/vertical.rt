@@ -2,23 +2,23 @@
 // (`oracle/table_of_verticals.py`).
 
 ghost use Rattle.raim_model.specs.Cuts.{AreCuts};
-ghost use Rattle.vert_slope.specs.UpLaws.{MayBeJudgedUp};
+ghost use Rattle.piece_verdict.specs.Alerts.{MayBeJudgedAgainst};
 
 use crate::tests::flights::{Flight, HALF, WEEK, are_runs, case_of, flight_of};
 use flight_samples::*;
+use piece_verdict::{Alert, FlightJudge};
 use raim_model::{Cmp, Run, SplitFault, Verdict, Why};
 use sample_judges::split_afresh;
 use std::alloc::Global;
 use std::marker::Brand;
 use std::sync::ledger::Blank;
 use std::test::Fail;
-use vert_slope::UpJudge;
 
 /// What halving makes of a flight that is judged vertically.
-fn judged_up(alloc: Global, judge: &UpJudge, cuts: &[i64]) -> Result<Vec<Run>, SplitFault>
-    requires { AreCuts (MayBeJudgedUp judge.now.case judge.now.vertical_mm) cuts.now }
+fn judged_up(alloc: Global, judge: &FlightJudge, cuts: &[i64]) -> Result<Vec<Run>, SplitFault>
+    requires { AreCuts (MayBeJudgedAgainst judge.now.alert judge.now.case) cuts.now }
 {
-    split_afresh::<UpJudge, Brand>(alloc, judge, cuts, Blank::new(1))
+    split_afresh::<FlightJudge, Brand>(alloc, judge, cuts, Blank::new(1))
 }
 
 /// What judging a flight makes of it, under a vertical alert limit in millimetres.
@@ -31,7 +31,12 @@ fn upwards(
     if vertical_mm == 0 || vertical_mm > 1_000_000_000 {
         return None;
     }
-    let judge = UpJudge { case, vertical_mm };
+    let judge = FlightJudge {
+        case,
+        alert: Alert::Vertical {
+            limit_mm: vertical_mm,
+        },
+    };
     let Ok(cuts) = judge.cuts(alloc) else {
         return None;
     };

@@ -22,77 +22,77 @@ returns-clause-forecast g c =
     let k = case_of c.args.limits c.args.almanacs.items c.args.outages.items c.args.route in
     let i : IsCase k = is_case c.args.limits c.args.almanacs.items c.args.outages.items c.args.route c.requires.limits c.requires.almanacs c.requires.outages c.len-points.ensures.route in
     let split : IsSplit c.args.alert c.in-Ok.case c.runs_against.result = record { runs = c.runs_against.ensures.runs; too_many = c.runs_against.ensures.too_many; overflow = c.runs_against.ensures.overflow } in
-    (said c.args.alert c.requires.alert k c.in-Ok.case i c.in-Ok.ensures c.runs_against.result split c.answered.result c.answered.ensures).forecast
+    (said c.args.alert c.requires.alert k c.in-Ok.case i c.in-Ok.ensures c.runs_against.result split).forecast
 
 pub returns-clause-runs : goal.returns-clause-runs
 returns-clause-runs g c =
     let k = case_of c.args.limits c.args.almanacs.items c.args.outages.items c.args.route in
     let i : IsCase k = is_case c.args.limits c.args.almanacs.items c.args.outages.items c.args.route c.requires.limits c.requires.almanacs c.requires.outages c.len-points.ensures.route in
     let split : IsSplit c.args.alert c.in-Ok.case c.runs_against.result = record { runs = c.runs_against.ensures.runs; too_many = c.runs_against.ensures.too_many; overflow = c.runs_against.ensures.overflow } in
-    (said c.args.alert c.requires.alert k c.in-Ok.case i c.in-Ok.ensures c.runs_against.result split c.answered.result c.answered.ensures).runs
+    (said c.args.alert c.requires.alert k c.in-Ok.case i c.in-Ok.ensures c.runs_against.result split).runs
 
 pub returns-clause-in_order : goal.returns-clause-in_order
 returns-clause-in_order g c =
     let k = case_of c.args.limits c.args.almanacs.items c.args.outages.items c.args.route in
     let i : IsCase k = is_case c.args.limits c.args.almanacs.items c.args.outages.items c.args.route c.requires.limits c.requires.almanacs c.requires.outages c.len-points.ensures.route in
     let split : IsSplit c.args.alert c.in-Ok.case c.runs_against.result = record { runs = c.runs_against.ensures.runs; too_many = c.runs_against.ensures.too_many; overflow = c.runs_against.ensures.overflow } in
-    (said c.args.alert c.requires.alert k c.in-Ok.case i c.in-Ok.ensures c.runs_against.result split c.answered.result c.answered.ensures).in_order
+    (said c.args.alert c.requires.alert k c.in-Ok.case i c.in-Ok.ensures c.runs_against.result split).in_order
 
 pub returns-clause-right : goal.returns-clause-right
 returns-clause-right g c =
     let k = case_of c.args.limits c.args.almanacs.items c.args.outages.items c.args.route in
     let i : IsCase k = is_case c.args.limits c.args.almanacs.items c.args.outages.items c.args.route c.requires.limits c.requires.almanacs c.requires.outages c.len-points.ensures.route in
     let split : IsSplit c.args.alert c.in-Ok.case c.runs_against.result = record { runs = c.runs_against.ensures.runs; too_many = c.runs_against.ensures.too_many; overflow = c.runs_against.ensures.overflow } in
-    (said c.args.alert c.requires.alert k c.in-Ok.case i c.in-Ok.ensures c.runs_against.result split c.answered.result c.answered.ensures).right
+    (said c.args.alert c.requires.alert k c.in-Ok.case i c.in-Ok.ensures c.runs_against.result split).right
 
 pub returns-clause-undecided : goal.returns-clause-undecided
 returns-clause-undecided g c =
     let k = case_of c.args.limits c.args.almanacs.items c.args.outages.items c.args.route in
     let i : IsCase k = is_case c.args.limits c.args.almanacs.items c.args.outages.items c.args.route c.requires.limits c.requires.almanacs c.requires.outages c.len-points.ensures.route in
     let split : IsSplit c.args.alert c.in-Ok.case c.runs_against.result = record { runs = c.runs_against.ensures.runs; too_many = c.runs_against.ensures.too_many; overflow = c.runs_against.ensures.overflow } in
-    (said c.args.alert c.requires.alert k c.in-Ok.case i c.in-Ok.ensures c.runs_against.result split c.answered.result c.answered.ensures).undecided
+    (said c.args.alert c.requires.alert k c.in-Ok.case i c.in-Ok.ensures c.runs_against.result split).undecided
 
 pub returns-clause-near : goal.returns-clause-near
 returns-clause-near g c =
     let k = case_of c.args.limits c.args.almanacs.items c.args.outages.items c.args.route in
     let i : IsCase k = is_case c.args.limits c.args.almanacs.items c.args.outages.items c.args.route c.requires.limits c.requires.almanacs c.requires.outages c.len-points.ensures.route in
     let split : IsSplit c.args.alert c.in-Ok.case c.runs_against.result = record { runs = c.runs_against.ensures.runs; too_many = c.runs_against.ensures.too_many; overflow = c.runs_against.ensures.overflow } in
-    (said c.args.alert c.requires.alert k c.in-Ok.case i c.in-Ok.ensures c.runs_against.result split c.answered.result c.answered.ensures).near
+    (said c.args.alert c.requires.alert k c.in-Ok.case i c.in-Ok.ensures c.runs_against.result split).near
 
 pub returns-clause-within : goal.returns-clause-within
 returns-clause-within g c =
     let k = case_of c.args.limits c.args.almanacs.items c.args.outages.items c.args.route in
     let i : IsCase k = is_case c.args.limits c.args.almanacs.items c.args.outages.items c.args.route c.requires.limits c.requires.almanacs c.requires.outages c.len-points.ensures.route in
     let split : IsSplit c.args.alert c.in-Ok.case c.runs_against.result = record { runs = c.runs_against.ensures.runs; too_many = c.runs_against.ensures.too_many; overflow = c.runs_against.ensures.overflow } in
-    (said c.args.alert c.requires.alert k c.in-Ok.case i c.in-Ok.ensures c.runs_against.result split c.answered.result c.answered.ensures).within
+    (said c.args.alert c.requires.alert k c.in-Ok.case i c.in-Ok.ensures c.runs_against.result split).within
 
 pub returns-clause-printable : goal.returns-clause-printable
 returns-clause-printable g c =
     let k = case_of c.args.limits c.args.almanacs.items c.args.outages.items c.args.route in
     let i : IsCase k = is_case c.args.limits c.args.almanacs.items c.args.outages.items c.args.route c.requires.limits c.requires.almanacs c.requires.outages c.len-points.ensures.route in
     let split : IsSplit c.args.alert c.in-Ok.case c.runs_against.result = record { runs = c.runs_against.ensures.runs; too_many = c.runs_against.ensures.too_many; overflow = c.runs_against.ensures.overflow } in
-    (said c.args.alert c.requires.alert k c.in-Ok.case i c.in-Ok.ensures c.runs_against.result split c.answered.result c.answered.ensures).printable
+    (said c.args.alert c.requires.alert k c.in-Ok.case i c.in-Ok.ensures c.runs_against.result split).printable
 
 pub returns-clause-overflow : goal.returns-clause-overflow
 returns-clause-overflow g c =
     let k = case_of c.args.limits c.args.almanacs.items c.args.outages.items c.args.route in
     let i : IsCase k = is_case c.args.limits c.args.almanacs.items c.args.outages.items c.args.route c.requires.limits c.requires.almanacs c.requires.outages c.len-points.ensures.route in
     let split : IsSplit c.args.alert c.in-Ok.case c.runs_against.result = record { runs = c.runs_against.ensures.runs; too_many = c.runs_against.ensures.too_many; overflow = c.runs_against.ensures.overflow } in
-    (said c.args.alert c.requires.alert k c.in-Ok.case i c.in-Ok.ensures c.runs_against.result split c.answered.result c.answered.ensures).overflow
+    (said c.args.alert c.requires.alert k c.in-Ok.case i c.in-Ok.ensures c.runs_against.result split).overflow
 
 pub returns-clause-too_many : goal.returns-clause-too_many
 returns-clause-too_many g c =
     let k = case_of c.args.limits c.args.almanacs.items c.args.outages.items c.args.route in
     let i : IsCase k = is_case c.args.limits c.args.almanacs.items c.args.outages.items c.args.route c.requires.limits c.requires.almanacs c.requires.outages c.len-points.ensures.route in
     let split : IsSplit c.args.alert c.in-Ok.case c.runs_against.result = record { runs = c.runs_against.ensures.runs; too_many = c.runs_against.ensures.too_many; overflow = c.runs_against.ensures.overflow } in
-    (said c.args.alert c.requires.alert k c.in-Ok.case i c.in-Ok.ensures c.runs_against.result split c.answered.result c.answered.ensures).too_many
+    (said c.args.alert c.requires.alert k c.in-Ok.case i c.in-Ok.ensures c.runs_against.result split).too_many
 
 pub returns-clause-settled : goal.returns-clause-settled
 returns-clause-settled g c =
     let k = case_of c.args.limits c.args.almanacs.items c.args.outages.items c.args.route in
     let i : IsCase k = is_case c.args.limits c.args.almanacs.items c.args.outages.items c.args.route c.requires.limits c.requires.almanacs c.requires.outages c.len-points.ensures.route in
     let split : IsSplit c.args.alert c.in-Ok.case c.runs_against.result = record { runs = c.runs_against.ensures.runs; too_many = c.runs_against.ensures.too_many; overflow = c.runs_against.ensures.overflow } in
-    (said c.args.alert c.requires.alert k c.in-Ok.case i c.in-Ok.ensures c.runs_against.result split c.answered.result c.answered.ensures).settled
+    (said c.args.alert c.requires.alert k c.in-Ok.case i c.in-Ok.ensures c.runs_against.result split).settled
 
 pub returns-clause-exists : goal.returns-clause-exists
 returns-clause-exists g c =

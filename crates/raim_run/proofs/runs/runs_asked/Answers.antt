@@ -45,7 +45,7 @@ returns-in-Err-forecast_against-clause-cause g c =
     let files = c.in-Ok.files in
     let said = c.in-Err-forecast_against.ensures in
     subst (λ (status : Status). NoRunsCause (asked_by c.args.request.now) (g.D.Desk.holds c.args.desk.now) (g.D.Desk.faults c.args.desk.now) (g.D.Desk.faults c.read_asked.new.desk) status)
-    (sym c.status_of_no_forecast-status.ensures)
+    (sym c.status_of_fault-status.ensures)
     (unforecast (asked_by c.args.request.now) (g.D.Desk.holds c.args.desk.now) (case_of files.limits files.almanacs.items files.outages.items files.route) c.in-Ok.ensures.ok c.alert_asked.result c.alert_asked.ensures.value _ _ c.in-Err-forecast_against.reason
     (λ at prn e. (said.overflow at prn).0 (ap Err e)) (λ e. said.too_many.0 (ap Err e)))
 
@@ -54,14 +54,14 @@ returns-in-Err-forecast_against-clause-note g c =
     let files = c.in-Ok.files in
     let said = c.in-Err-forecast_against.ensures in
     subst (λ (status : Status). HasNote (asked_by c.args.request.now) (g.D.Desk.holds c.args.desk.now) files.limits.leap status)
-    (sym c.status_of_no_forecast-status.ensures)
+    (sym c.status_of_fault-status.ensures)
     (noted (asked_by c.args.request.now) (g.D.Desk.holds c.args.desk.now) (case_of files.limits files.almanacs.items files.outages.items files.route) c.in-Ok.ensures.ok c.alert_asked.result c.alert_asked.ensures.value c.in-Err-forecast_against.reason
     c.in-Ok.ensures.instants (λ at prn e. (said.overflow at prn).0 (ap Err e)))
 
 pub returns-in-Err-forecast_against-clause-calls : goal.returns-in-Err-forecast_against-clause-calls
 returns-in-Err-forecast_against-clause-calls g c =
     let made = c.in-Ok.ensures.calls in
-    (made.0, made.1, subst (λ (status : Status). AskedCalls (asked_by c.args.request.now) status made.0) (sym c.status_of_no_forecast-status.ensures) (judged_calls (asked_by c.args.request.now) c.in-Ok.files c.in-Err-forecast_against.reason made.0 made.2))
+    (made.0, made.1, subst (λ (status : Status). AskedCalls (asked_by c.args.request.now) status made.0) (sym c.status_of_fault-status.ensures) (judged_calls (asked_by c.args.request.now) c.in-Ok.files c.in-Err-forecast_against.reason made.0 made.2))
 
 pub returns-in-Err-forecast_against-clause-steps : goal.returns-in-Err-forecast_against-clause-steps
 returns-in-Err-forecast_against-clause-steps g c =

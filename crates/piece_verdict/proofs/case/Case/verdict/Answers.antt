@@ -3,13 +3,13 @@ use Rattle.std.proofs.lemmas.Int.{to_z-of_z}
 use Rattle.std.proofs.lemmas.List.{length-map}
 use Rattle.raim_model.specs.PointVerdict.{least_count}
 use Rattle.raim_model.specs.Solution.{Case}
-use Rattle.slope_laws.specs.declared.shift.Shift.TheVariants.{Horizontal}
 use Rattle.slope_laws.specs.ShiftSlopes.{slopes_for}
 use Rattle.geom_inverse.specs.declared.row.Row.{Row}
 use Rattle.slope_test.specs.Marks.{SlopesPass, ListsPass}
 use Rattle.slope_test.specs.Named.{named, named_row}
 use Rattle.verdict_laws.specs.PieceVerdict.{kappa_over, test_by}
 use Rattle.case_laws.specs.PieceVerdict.{seen_of}
+use Rattle.piece_verdict.specs.Alerts.{shift_of, limit_for}
 use Rattle.piece_verdict.specs.Looks.{AreLooks}
 use Rattle.piece_verdict.specs.Seen.{looks_with}
 use Rattle.piece_verdict.proofs.KnownLemmas.{slopes_kept, lists_kept, slopes_known, lists_known}
@@ -21,14 +21,14 @@ returns-in-Few-clause-value c =
     let f = c.ranges.first in
     let l = c.ranges.last in
     let h = subst (λ r. AreLooks (least_count c.args.self.now.limits.exclude) (seen_of c.args.self.now c.args.first c.args.last) (looks_with r c.looked.new.seen)) c.in-Few.is (simp to_z-of_z at c.looked.ensures.looks) in
-    is_few c.args.self.now c.args.first c.args.last h
+    is_few c.args.alert c.args.self.now c.args.first c.args.last h
 
 pub returns-in-Straddle-clause-value : goal.returns-in-Straddle-clause-value
 returns-in-Straddle-clause-value c =
     let f = c.ranges.first in
     let l = c.ranges.last in
     let h = subst (λ r. AreLooks (least_count c.args.self.now.limits.exclude) (seen_of c.args.self.now c.args.first c.args.last) (looks_with r c.looked.new.seen)) c.in-Straddle.is (simp to_z-of_z at c.looked.ensures.looks) in
-    is_masked c.args.self.now c.args.first c.args.last c.in-Straddle.prn h.0 h.1
+    is_masked c.args.alert c.args.self.now c.args.first c.args.last c.in-Straddle.prn h.0 h.1
 
 pub test-requires-clause-enough : goal.test-requires-clause-enough
 test-requires-clause-enough c =
@@ -46,8 +46,8 @@ returns-in-Rows-clause-value c =
     let l = c.ranges.last in
     let h = subst (λ r. AreLooks (least_count c.args.self.now.limits.exclude) (seen_of c.args.self.now c.args.first c.args.last) (looks_with r c.looked.new.seen)) c.in-Rows.is (simp to_z-of_z at c.looked.ensures.looks) in
     c.given.ensures
-    ∙ is_tested c.args.self.now c.args.first c.args.last (named c.looked.new.seen.rows.items) c.test.result h.0 h.1 h.2
-    (c.test.ensures.value ∙ ap (λ (x : Case). test_by (slopes_for Horizontal) x.limits x.limits.alert_mm (named c.as_slice.result.now)) c.self.view_is ∙ ap (λ rs. test_by (slopes_for Horizontal) c.args.self.now.limits c.args.self.now.limits.alert_mm (named rs)) c.as_slice.ensures.value)
+    ∙ is_tested c.args.alert c.args.self.now c.args.first c.args.last (named c.looked.new.seen.rows.items) c.test.result h.0 h.1 h.2
+    (c.test.ensures.value ∙ ap (λ (x : Case). test_by (slopes_for (shift_of c.args.alert)) x.limits (limit_for c.args.alert x.limits) (named c.as_slice.result.now)) c.self.view_is ∙ ap (λ rs. test_by (slopes_for (shift_of c.args.alert)) c.args.self.now.limits (limit_for c.args.alert c.args.self.now.limits) (named rs)) c.as_slice.ensures.value)
 
 -- the rows that are kept are those that are seen
 pub test-requires-clause-slopes : goal.test-requires-clause-slopes
@@ -55,18 +55,18 @@ test-requires-clause-slopes c =
     let f = c.ranges.first in
     let l = c.ranges.last in
     let h = subst (λ r. AreLooks (least_count c.args.self.now.limits.exclude) (seen_of c.args.self.now c.args.first c.args.last) (looks_with r c.looked.new.seen)) c.in-Rows.is (simp to_z-of_z at c.looked.ensures.looks) in
-    subst (λ (rs : List Row). SlopesPass Horizontal (named rs) (kappa_over c.self.inside.limits c.self.inside.limits.alert_mm (length rs)) c.args.known.now.slopes.places) (sym c.as_slice.ensures.value)
-    (subst (λ (x : Case). SlopesPass Horizontal (named c.looked.new.seen.rows.items) (kappa_over x.limits x.limits.alert_mm (length c.looked.new.seen.rows.items)) c.args.known.now.slopes.places) (sym c.self.view_is)
-    (slopes_kept c.args.self.now c.args.first c.args.last c.looked.new.seen.rows.items c.args.known.now.slopes.places h.2 c.requires.known.slopes))
+    subst (λ (rs : List Row). SlopesPass (shift_of c.args.alert) (named rs) (kappa_over c.self.inside.limits (limit_for c.args.alert c.self.inside.limits) (length rs)) c.args.known.now.slopes.places) (sym c.as_slice.ensures.value)
+    (subst (λ (x : Case). SlopesPass (shift_of c.args.alert) (named c.looked.new.seen.rows.items) (kappa_over x.limits (limit_for c.args.alert x.limits) (length c.looked.new.seen.rows.items)) c.args.known.now.slopes.places) (sym c.self.view_is)
+    (slopes_kept c.args.alert c.args.self.now c.args.first c.args.last c.looked.new.seen.rows.items c.args.known.now.slopes.places h.2 c.requires.known.slopes))
 
 pub test-requires-clause-lists : goal.test-requires-clause-lists
 test-requires-clause-lists c =
     let f = c.ranges.first in
     let l = c.ranges.last in
     let h = subst (λ r. AreLooks (least_count c.args.self.now.limits.exclude) (seen_of c.args.self.now c.args.first c.args.last) (looks_with r c.looked.new.seen)) c.in-Rows.is (simp to_z-of_z at c.looked.ensures.looks) in
-    subst (λ (rs : List Row). ListsPass Horizontal (named rs) (kappa_over c.self.inside.limits c.self.inside.limits.alert_mm (length rs - 1)) c.args.known.now.lists.places) (sym c.as_slice.ensures.value)
-    (subst (λ (x : Case). ListsPass Horizontal (named c.looked.new.seen.rows.items) (kappa_over x.limits x.limits.alert_mm (length c.looked.new.seen.rows.items - 1)) c.args.known.now.lists.places) (sym c.self.view_is)
-    (lists_kept c.args.self.now c.args.first c.args.last c.looked.new.seen.rows.items c.args.known.now.lists.places h.2 c.requires.known.lists))
+    subst (λ (rs : List Row). ListsPass (shift_of c.args.alert) (named rs) (kappa_over c.self.inside.limits (limit_for c.args.alert c.self.inside.limits) (length rs - 1)) c.args.known.now.lists.places) (sym c.as_slice.ensures.value)
+    (subst (λ (x : Case). ListsPass (shift_of c.args.alert) (named c.looked.new.seen.rows.items) (kappa_over x.limits (limit_for c.args.alert x.limits) (length c.looked.new.seen.rows.items - 1)) c.args.known.now.lists.places) (sym c.self.view_is)
+    (lists_kept c.args.alert c.args.self.now c.args.first c.args.last c.looked.new.seen.rows.items c.args.known.now.lists.places h.2 c.requires.known.lists))
 
 pub returns-in-Rows-clause-known : goal.returns-in-Rows-clause-known
 returns-in-Rows-clause-known c =
@@ -75,10 +75,10 @@ returns-in-Rows-clause-known c =
     let h = subst (λ r. AreLooks (least_count c.args.self.now.limits.exclude) (seen_of c.args.self.now c.args.first c.args.last) (looks_with r c.looked.new.seen)) c.in-Rows.is (simp to_z-of_z at c.looked.ensures.looks) in
     record {
       hidden = simp to_z-of_z at c.looked.ensures.known;
-      slopes = slopes_known c.args.self.now c.args.first c.args.last c.looked.new.seen.rows.items c.test.new.slopes.places h.1 h.2
-          (subst (λ (x : Case). SlopesPass Horizontal (named c.looked.new.seen.rows.items) (kappa_over x.limits x.limits.alert_mm (length c.looked.new.seen.rows.items)) c.test.new.slopes.places) c.self.view_is
-          (subst (λ (rs : List Row). SlopesPass Horizontal (named rs) (kappa_over c.self.inside.limits c.self.inside.limits.alert_mm (length rs)) c.test.new.slopes.places) c.as_slice.ensures.value c.test.ensures.slopes));
-      lists = lists_known c.args.self.now c.args.first c.args.last c.looked.new.seen.rows.items c.test.new.lists.places h.1 h.2
-          (subst (λ (x : Case). ListsPass Horizontal (named c.looked.new.seen.rows.items) (kappa_over x.limits x.limits.alert_mm (length c.looked.new.seen.rows.items - 1)) c.test.new.lists.places) c.self.view_is
-          (subst (λ (rs : List Row). ListsPass Horizontal (named rs) (kappa_over c.self.inside.limits c.self.inside.limits.alert_mm (length rs - 1)) c.test.new.lists.places) c.as_slice.ensures.value c.test.ensures.lists));
+      slopes = slopes_known c.args.alert c.args.self.now c.args.first c.args.last c.looked.new.seen.rows.items c.test.new.slopes.places h.1 h.2
+          (subst (λ (x : Case). SlopesPass (shift_of c.args.alert) (named c.looked.new.seen.rows.items) (kappa_over x.limits (limit_for c.args.alert x.limits) (length c.looked.new.seen.rows.items)) c.test.new.slopes.places) c.self.view_is
+          (subst (λ (rs : List Row). SlopesPass (shift_of c.args.alert) (named rs) (kappa_over c.self.inside.limits (limit_for c.args.alert c.self.inside.limits) (length rs)) c.test.new.slopes.places) c.as_slice.ensures.value c.test.ensures.slopes));
+      lists = lists_known c.args.alert c.args.self.now c.args.first c.args.last c.looked.new.seen.rows.items c.test.new.lists.places h.1 h.2
+          (subst (λ (x : Case). ListsPass (shift_of c.args.alert) (named c.looked.new.seen.rows.items) (kappa_over x.limits (limit_for c.args.alert x.limits) (length c.looked.new.seen.rows.items - 1)) c.test.new.lists.places) c.self.view_is
+          (subst (λ (rs : List Row). ListsPass (shift_of c.args.alert) (named rs) (kappa_over c.self.inside.limits (limit_for c.args.alert c.self.inside.limits) (length rs - 1)) c.test.new.lists.places) c.as_slice.ensures.value c.test.ensures.lists));
     }

@@ -5,7 +5,7 @@ use Rattle.piece_verdict.proofs.HiddenLemmas.{none_hidden}
 use Rattle.piece_verdict.proofs.known.Known.nothing.Goals as goal
 
 pub returns : goal.returns
-returns c = λ flight first last.
+returns c = λ alert flight first last.
     record {
       hidden = none_hidden (λ r. sight_over flight r first last) (in_force first flight.almanacs) _ c.none.ensures;
       slopes = record { sure = λ i t. absurd (none_marked _ c.none-2.ensures i t); pass = λ i row lt t. absurd (none_marked _ c.none-2.ensures i t) };
