@@ -98,3 +98,50 @@ neg_within f m p = form_within (neg_form f) m (turned f.centre (centre_within p)
   where
     turned : (z : ℤ) → IsNumberWithin z m → IsNumberWithin (neg_ℤ z) m
     turned z p = let l = p.low in let h = p.high in record { low = omega (arith, ints); high = omega (arith, ints) }
+
+-- the sum of two and a small number, as the program adds them
+pub sum_and-plain : (y z : ℤ) (k : ℕ) → k ≤ 16 → IsNumberWithin y (2 ^ 124 + 1) → IsNumberWithin z (2 ^ 124 + 1) → to_z w128 (of_z w128 (to_z w128 (of_z w128 (to_z w128 (of_z w128 y) +ℤ to_z w128 (of_z w128 z))) +ℤ pos k)) ≡ (y +ℤ z) +ℤ pos k
+sum_and-plain y z k h p q =
+    ap (λ t. to_z w128 (of_z w128 (t +ℤ pos k))) (sum-plain y z (wider_bits (2 ^ 124 + 1) (2 ^ 125) (lit≤ tt) p) (wider_bits (2 ^ 124 + 1) (2 ^ 125) (lit≤ tt) q))
+    ∙ read_128 ((y +ℤ z) +ℤ pos k) (joined (sum_within y z (2 ^ 124 + 1) (2 ^ 124 + 1) p q))
+  where
+    joined : IsNumberWithin (y +ℤ z) ((2 ^ 124 + 1) + (2 ^ 124 + 1)) → IsNumberWithin ((y +ℤ z) +ℤ pos k) (2 ^ 126)
+    joined s = let l = s.low in let u = s.high in record { low = omega (arith, ints); high = omega (arith, ints) }
+
+-- the sum of three, and of three and a small number
+three_within : {x y z : ℤ} → IsNumberWithin x (2 ^ 124 + 1) → IsNumberWithin y (2 ^ 124 + 1) → IsNumberWithin z (2 ^ 124 + 1) → IsNumberWithin ((x +ℤ y) +ℤ z) (((2 ^ 124 + 1) + (2 ^ 124 + 1)) + (2 ^ 124 + 1))
+three_within {x} {y} {z} p q s = sum_within (x +ℤ y) z ((2 ^ 124 + 1) + (2 ^ 124 + 1)) (2 ^ 124 + 1) (sum_within x y (2 ^ 124 + 1) (2 ^ 124 + 1) p q) s
+
+pub sum_of_three-plain : (x y z : ℤ) → IsNumberWithin x (2 ^ 124 + 1) → IsNumberWithin y (2 ^ 124 + 1) → IsNumberWithin z (2 ^ 124 + 1)
+    → to_z w128 (of_z w128 (to_z w128 (of_z w128 (to_z w128 (of_z w128 x) +ℤ to_z w128 (of_z w128 y))) +ℤ to_z w128 (of_z w128 z))) ≡ (x +ℤ y) +ℤ z
+sum_of_three-plain x y z p q s =
+    ap (λ t. to_z w128 (of_z w128 (t +ℤ to_z w128 (of_z w128 z)))) (sum-plain x y (wider_bits (2 ^ 124 + 1) (2 ^ 125) (lit≤ tt) p) (wider_bits (2 ^ 124 + 1) (2 ^ 125) (lit≤ tt) q))
+    ∙ ap (λ t. to_z w128 (of_z w128 ((x +ℤ y) +ℤ t))) (read_128 z (wider_bits (2 ^ 124 + 1) (2 ^ 126) (lit≤ tt) s))
+    ∙ read_128 ((x +ℤ y) +ℤ z) (wider_bits (((2 ^ 124 + 1) + (2 ^ 124 + 1)) + (2 ^ 124 + 1)) (2 ^ 126) (lit≤ tt) (three_within p q s))
+
+pub sum_of_three_and-plain : (x y z : ℤ) (k : ℕ) → k ≤ 16 → IsNumberWithin x (2 ^ 124 + 1) → IsNumberWithin y (2 ^ 124 + 1) → IsNumberWithin z (2 ^ 124 + 1)
+    → to_z w128 (of_z w128 (to_z w128 (of_z w128 (to_z w128 (of_z w128 (to_z w128 (of_z w128 x) +ℤ to_z w128 (of_z w128 y))) +ℤ to_z w128 (of_z w128 z))) +ℤ pos k)) ≡ ((x +ℤ y) +ℤ z) +ℤ pos k
+sum_of_three_and-plain x y z k h p q s = ap (λ t. to_z w128 (of_z w128 (t +ℤ pos k))) (sum_of_three-plain x y z p q s) ∙ read_128 (((x +ℤ y) +ℤ z) +ℤ pos k) (more (three_within p q s))
+  where
+    more : IsNumberWithin ((x +ℤ y) +ℤ z) (((2 ^ 124 + 1) + (2 ^ 124 + 1)) + (2 ^ 124 + 1)) → IsNumberWithin (((x +ℤ y) +ℤ z) +ℤ pos k) (2 ^ 126)
+    more t = let l = t.low in let u = t.high in record { low = omega (arith, ints); high = omega (arith, ints) }
+
+-- these fit, as the program adds them
+pub three_shares_fit : (x y z : ℤ) → IsNumberWithin x (2 ^ 124 + 1) → IsNumberWithin y (2 ^ 124 + 1) → IsNumberWithin z (2 ^ 124 + 1)
+    → FitsSigned w128 (to_z w128 (of_z w128 (to_z w128 (of_z w128 x) +ℤ to_z w128 (of_z w128 y))) +ℤ to_z w128 (of_z w128 z))
+three_shares_fit x y z p q s =
+    rw (sum-plain x y (wider_bits (2 ^ 124 + 1) (2 ^ 125) (lit≤ tt) p) (wider_bits (2 ^ 124 + 1) (2 ^ 125) (lit≤ tt) q), read_128 z (wider_bits (2 ^ 124 + 1) (2 ^ 126) (lit≤ tt) s)) (fits ((x +ℤ y) +ℤ z) (three_within p q s))
+  where
+    fits : (t : ℤ) → IsNumberWithin t (((2 ^ 124 + 1) + (2 ^ 124 + 1)) + (2 ^ 124 + 1)) → FitsSigned w128 t
+    fits t b = let l = b.low in let h = b.high in omega (arith, ints)
+
+pub three_shares_and_fit : (x y z : ℤ) → IsNumberWithin x (2 ^ 124 + 1) → IsNumberWithin y (2 ^ 124 + 1) → IsNumberWithin z (2 ^ 124 + 1)
+    → FitsSigned w128 (to_z w128 (of_z w128 (to_z w128 (of_z w128 (to_z w128 (of_z w128 x) +ℤ to_z w128 (of_z w128 y))) +ℤ to_z w128 (of_z w128 z))) +ℤ pos 2)
+three_shares_and_fit x y z p q s = rw (sum_of_three-plain x y z p q s) (fits ((x +ℤ y) +ℤ z) (three_within p q s))
+  where
+    fits : (t : ℤ) → IsNumberWithin t (((2 ^ 124 + 1) + (2 ^ 124 + 1)) + (2 ^ 124 + 1)) → FitsSigned w128 (t +ℤ pos 2)
+    fits t b = let l = b.low in let h = b.high in omega (arith, ints)
+
+-- a difference, as the program takes it
+pub difference-plain : (y z : ℤ) → IsNumberWithin y (2 ^ 124) → IsNumberWithin z (2 ^ 124) → to_z w128 (of_z w128 (to_z w128 (of_z w128 y) -ℤ to_z w128 (of_z w128 z))) ≡ y -ℤ z
+difference-plain y z p q = let pl = p.low in let ph = p.high in let ql = q.low in let qh = q.high in omega (arith, ints)

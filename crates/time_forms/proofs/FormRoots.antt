@@ -28,7 +28,7 @@ root_is z h = record { low = root_of_low z h; high = let p = root_of_high z in a
     above n z p = omega (arith, ints)
 
 -- the root of what is above 0 is above 0
-root_some : (z : ℤ) → pos 1 ≤ℤ z → 1 ≤ root_of z
+pub root_some : (z : ℤ) → pos 1 ≤ℤ z → 1 ≤ root_of z
 root_some z h = some (root_of z) (root_of_high z)
   where
     some : (n : ℕ) → z <ℤ pos ((n + 1) * (n + 1)) → 1 ≤ n

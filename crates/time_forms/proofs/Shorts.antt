@@ -1,15 +1,15 @@
 -- What the test whether a form fits 64 bits tells.
-use Rattle.std.proofs.Common.{sym, ◌≡◌, ap, subst, refl, arith, ◌^◌, ℤ, pos, neg_ℤ, ◌<ℤ◌, Bool, true, false, cond, ◌&&◌, Option, Some, None, to_z, of_z}
+use Rattle.std.proofs.Common.{sym, ◌≡◌, ap, ap₂, ◌∙◌, subst, refl, arith, ◌^◌, ℕ, ℤ, pos, neg_ℤ, ◌≤ℤ◌, ◌<ℤ◌, Bool, true, false, cond, ◌&&◌, Option, Some, None, to_z, of_z}
 use Rattle.std.proofs.lemmas.Int.{ints}
 use Rattle.std.specs.Option.{option_map}
 use Rattle.std.specs.Prelude.{IfSome, is_some}
 use mir.Val.{SFits}
 use mir.Syntax.{w64, w128}
 use lib.Dec.{T}
-use lib.Signed.{lt_z}
+use lib.Signed.{le_z, lt_z}
 use Rattle.whole_numbers.proofs.Casts.{plain}
 use Rattle.time_forms.specs.declared.time_form.TimeForm.{TimeForm}
-use Rattle.time_forms.specs.Forms.{Form}
+use Rattle.time_forms.specs.Forms.{Form, least_of}
 use Rattle.time_forms.specs.Programs.{IsNumberWithin, IsFormWithin, is_below, is_short, short_of, form}
 use Rattle.time_forms.proofs.Bits.{form_within}
 
@@ -74,3 +74,30 @@ if_short (Some t) f e P p = subst P (sym (short_same f (form t) (sym e))) p
 pub if_short_within : (r : Option TimeForm) (f : Form) → option_map form r ≡ short_of f → IfSome r (λ t. IsFormWithin (form t) (2 ^ 58))
 if_short_within None f e = tt
 if_short_within (Some t) f e = short_within f (form t) (sym e)
+
+-- a number below a bound lies within it
+pub below_within : (z : ℤ) (m : ℕ) → true ≡ is_below z m → IsNumberWithin z m
+below_within z m e = let p = both_hold (lt_z (neg_ℤ (pos m)) z) (lt_z z (pos m)) e in within z (is_lower p.0) (is_lower p.1)
+  where
+    within : (z : ℤ) → neg_ℤ (pos m) <ℤ z → z <ℤ pos m → IsNumberWithin z m
+    within z p q = record { low = omega (arith, ints); high = omega (arith, ints) }
+
+-- both of two numbers are above 0
+pub from_one : {z : ℤ} → true ≡ le_z (pos 1) z → pos 1 ≤ℤ z
+from_one e = record { le = subst T e tt }
+
+-- what holds of a form, where a test passes, holds of the form of the program that is its short one then
+pub if_checked : (r : Option TimeForm) (b : Bool) (f : Form) → option_map form r ≡ cond b (short_of f) None → (P : Form → Type 0) → (true ≡ b → P f) → IfSome r (λ t. P (form t))
+if_checked None b f e P p = tt
+if_checked (Some t) true f e P p = if_short (Some t) f e P (p refl)
+if_checked (Some t) false f e P p = absurd (subst T (ap (λ (o : Option Form). is_some o) e) tt)
+
+pub if_checked_within : (r : Option TimeForm) (b : Bool) (f : Form) → option_map form r ≡ cond b (short_of f) None → IfSome r (λ t. IsFormWithin (form t) (2 ^ 58))
+if_checked_within None b f e = tt
+if_checked_within (Some t) true f e = if_short_within (Some t) f e
+if_checked_within (Some t) false f e = absurd (subst T (ap (λ (o : Option Form). is_some o) e) tt)
+
+-- the test whether the form is above 0
+pub tested : (f : Form) (l : ℤ) (b : Bool) → SFits w128 l → SFits w128 f.centre → l ≡ least_of f → b ≡ (le_z (pos 1) (to_z w128 (of_z w128 l)) && le_z (pos 1) (to_z w128 (of_z w128 f.centre)))
+    → b ≡ (le_z (pos 1) (least_of f) && le_z (pos 1) f.centre)
+tested f l b lf cf i e = e ∙ ap₂ (λ x y. le_z (pos 1) x && le_z (pos 1) y) (plain lf ∙ i) (plain cf)

@@ -5,7 +5,7 @@ use lib.Dec.{lit≤}
 use Rattle.whole_numbers.specs.Rounding.{floor_of}
 use Rattle.whole_numbers.proofs.Divisions.{floor_of_low, floor_of_high}
 use Rattle.time_forms.specs.Forms.{Form, size}
-use Rattle.time_forms.specs.Operations.{wide_form}
+use Rattle.time_forms.specs.Operations.{wide_form, scale_form}
 use Rattle.time_forms.specs.Programs.{IsNumberWithin, IsFormWithin}
 use Rattle.time_forms.proofs.Bits.{centre_within, turning_within, remainder_within, form_within}
 use Rattle.time_forms.proofs.Bounds.{product_high, product_low}
@@ -16,7 +16,7 @@ product_bound x y m n p q = record {
   high = let a = product_high x y (pos m) (pos n) p.low p.high q.low q.high in omega (arith, ints);
 }
 
-size_bound : (z : ℤ) (m : ℕ) → IsNumberWithin z m → IsNumberWithin (size z) m
+pub size_bound : (z : ℤ) (m : ℕ) → IsNumberWithin z m → IsNumberWithin (size z) m
 size_bound z m p = let l = p.low in let h = p.high in record { low = omega (arith, ints); high = omega (arith, ints) }
 
 two_sizes : (y z : ℤ) (m : ℕ) → IsNumberWithin y m → IsNumberWithin z m → IsNumberWithin (size y +ℤ size z) (m + m)
@@ -66,3 +66,7 @@ wide_within f g m n p q =
     (centre_joined _ _ (m * n) (product_bound f.centre g.centre m n fc gc) (half_bound _ (m * n) turn))
     (turning_joined _ _ (m * n) (product_bound f.centre g.turning m n fc gv) (product_bound f.turning g.centre m n fv gc))
     (remainder_joined _ _ _ m n (product_bound _ g.remainder (m + m) n (two_sizes f.centre f.turning m fc fv) gr) (product_bound _ f.remainder (n + n + n) m (three_sizes g.centre g.turning g.remainder n gc gv gr) fr) (half_size_bound _ (m * n) turn))
+
+pub scale_within : (f : Form) (k : ℤ) (m n : ℕ) → IsFormWithin f m → IsNumberWithin k n → IsFormWithin (scale_form f k) (m * n)
+unfolding scale_form
+scale_within f k m n p q = form_within (scale_form f k) (m * n) (product_bound f.centre k m n (centre_within p) q) (product_bound f.turning k m n (turning_within p) q) (product_bound f.remainder (size k) m n (remainder_within p) (size_bound k n q))

@@ -5,8 +5,12 @@
 #![tactic(auto)]
 
 mod laws;
+mod multiples;
 mod narrowing;
 mod products;
+mod quotients;
+mod roots;
+mod shares;
 mod short;
 mod spans;
 mod sums;
@@ -17,8 +21,11 @@ pub use laws::{
     forms_are_inside_their_spans, known_forms_hold, products_of_forms_hold,
     quotients_of_forms_hold, roots_of_forms_hold, short_forms_are_the_same, sums_of_forms_hold,
 };
+pub use multiples::multiple;
 pub use narrowing::{mul, narrow};
 pub use products::{square, wide_product};
+pub use quotients::div;
+pub use roots::sqrt;
 pub use short::in_64_bits;
 pub use spans::{greatest, least};
 pub use sums::{add, add_wide, neg, sub, sub_wide};

@@ -14,7 +14,7 @@ use whole_numbers::rounding::floor_shift;
 
 /// The product of two numbers.
 #[inline(always)]
-fn product(x: i64, y: i64) -> i128
+pub(crate) fn product(x: i64, y: i64) -> i128
     requires x_small { IsNumberWithin x (2 ^ 62) }
     requires y_small { IsNumberWithin y (2 ^ 60) }
     ensures value { result ≡ x *ℤ y }

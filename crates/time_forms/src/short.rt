@@ -14,7 +14,7 @@ const SHORT: i128 = 288230376151711744;
 
 /// Whether a number has fewer than 58 bits.
 #[inline(always)]
-fn is_short_number(z: i128) -> bool
+pub(crate) fn is_short_number(z: i128) -> bool
     ensures { result ≡ is_below z (2 ^ 58) }
 {
     -SHORT < z && z < SHORT
