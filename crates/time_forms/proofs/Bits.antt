@@ -1,5 +1,5 @@
 -- Bounds by powers of two.
-use Rattle.std.specs.Prelude.{◌≡◌, ℕ, ℤ, pos, neg_ℤ, ◌^◌, ◌+ℤ◌, ◌*ℤ◌, ◌-ℤ◌}
+use Rattle.std.specs.Prelude.{◌≡◌, ℕ, ℤ, pos, neg_ℤ, ◌≤ℤ◌, ◌^◌, ◌+ℤ◌, ◌*ℤ◌, ◌-ℤ◌}
 use Rattle.std.proofs.Common.{arith, ap, ap₂, ◌∙◌, ◌+◌, ◌≤◌, to_z, of_z, FitsSigned}
 use mir.Syntax.{w64, w128}
 use Rattle.std.proofs.lemmas.Int.{ints}
@@ -145,3 +145,20 @@ three_shares_and_fit x y z p q s = rw (sum_of_three-plain x y z p q s) (fits ((x
 -- a difference, as the program takes it
 pub difference-plain : (y z : ℤ) → IsNumberWithin y (2 ^ 124) → IsNumberWithin z (2 ^ 124) → to_z w128 (of_z w128 (to_z w128 (of_z w128 y) -ℤ to_z w128 (of_z w128 z))) ≡ y -ℤ z
 difference-plain y z p q = let pl = p.low in let ph = p.high in let ql = q.low in let qh = q.high in omega (arith, ints)
+
+-- both ends of an interval within a bound, and its middle, rounded down
+pub lower_within : (lo hi : ℤ) (m : ℕ) → neg_ℤ (pos m) ≤ℤ lo → lo ≤ℤ hi → hi ≤ℤ pos m → IsNumberWithin lo m
+lower_within lo hi m p o q = record { low = omega (arith, ints); high = omega (arith, ints) }
+
+pub upper_within : (lo hi : ℤ) (m : ℕ) → neg_ℤ (pos m) ≤ℤ lo → lo ≤ℤ hi → hi ≤ℤ pos m → IsNumberWithin hi m
+upper_within lo hi m p o q = record { low = omega (arith, ints); high = omega (arith, ints) }
+
+pub middle_within : (lo hi : ℤ) (m : ℕ) → IsNumberWithin lo m → IsNumberWithin hi m → IsNumberWithin (floor_of (lo +ℤ hi) 2) m
+middle_within lo hi m p q =
+    let a = floor_of_low (lo +ℤ hi) 2 (lit≤ tt) in
+    let b = floor_of_high (lo +ℤ hi) 2 (lit≤ tt) in
+    let pl = p.low in
+    let ph = p.high in
+    let ql = q.low in
+    let qh = q.high in
+    record { low = omega (arith, ints); high = omega (arith, ints) }

@@ -8,6 +8,7 @@ mod laws;
 mod multiples;
 mod narrowing;
 mod products;
+mod quantities;
 mod quotients;
 mod roots;
 mod shares;
@@ -24,6 +25,7 @@ pub use laws::{
 pub use multiples::multiple;
 pub use narrowing::{mul, narrow};
 pub use products::{square, wide_product};
+pub use quantities::{fixed, linear};
 pub use quotients::div;
 pub use roots::sqrt;
 pub use short::in_64_bits;
