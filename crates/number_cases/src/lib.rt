@@ -1,6 +1,8 @@
-//! Tests of whole numbers and intervals: tables that `oracle/` works out in whole numbers of any size.
+//! Tests of whole numbers, intervals and time forms: tables that `oracle/` works out in whole numbers of any size.
 #![tactic(auto)]
 
+#[cfg(test)]
+mod form_table;
 #[cfg(test)]
 mod interval_table;
 #[cfg(test)]

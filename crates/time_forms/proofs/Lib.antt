@@ -1,0 +1,12 @@
+pub mod Bounds
+pub mod FormSpans
+pub mod FormSums
+pub mod FormProducts
+pub mod Coarser
+pub mod Known
+pub mod Rests
+pub mod FormRoots
+pub mod FormQuotients
+pub mod Bits
+pub mod Shorts
+pub mod WideBounds
