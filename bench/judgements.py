@@ -3,11 +3,11 @@
 
 A judgement of one millisecond is counted as the difference of `judge_bench 20` and `judge_bench 0` over a real constellation of 31
 satellites, for detection and for exclusion; its line is held against the one that oracle/judgements.py works out. Whole runs are those
-of `raim`. Of the longest one the memory is looked at too, while it runs by itself: the greatest resident set that the system has
+of `raim`, and one of `raim_vert`. Of the longest one the memory is looked at too, while it runs by itself: the greatest resident set that the system has
 counted. Each figure is printed beside the most that it may be.
 
-Usage: python3 bench/judgements.py [detect|exclude|demo|flight|memory ..]
-Build the programs first: `rt run` in crates/judge_bench and in crates/raim_cli.
+Usage: python3 bench/judgements.py [detect|exclude|demo|flight|vertical|memory ..]
+Build the programs first: `rt run` in crates/judge_bench, in crates/raim_cli and in crates/raim_vert_cli.
 """
 import re
 import subprocess
@@ -20,6 +20,7 @@ from callgrind import count
 HERE = Path(__file__).resolve().parent.parent
 BENCH = HERE / "crates/judge_bench/out/judge_bench"
 RAIM = HERE / "crates/raim_cli/out/raim_cli"
+RAIM_VERT = HERE / "crates/raim_vert_cli/out/raim_vert_cli"
 DATA = HERE / "crates/judge_bench/data"
 FILES = ["gps.alm", "two.outages", "jfk-lhr.route"]
 TIMES = 20
@@ -34,6 +35,9 @@ RUNS = {
     ],
 }
 
+
+# the vertical flight under 50 m, with the biases of a receiver that is held to it, and its most instructions
+VERTICAL = ([HERE / "examples/new-york-london/vertical-50m.limits", *FILES, "50000"], 2_100_000_000)
 
 # the most kilobytes that a run may hold
 MEMORY = 8192
@@ -68,13 +72,16 @@ def judgement(name):
 
 
 def main():
-    for program in (BENCH, RAIM):
+    for program in (BENCH, RAIM, RAIM_VERT):
         if not program.exists():
             sys.exit(f"build it first: {program}")
     good = True
-    for name in sys.argv[1:] or [*JUDGEMENTS, *RUNS, "memory"]:
+    for name in sys.argv[1:] or [*JUDGEMENTS, *RUNS, "vertical", "memory"]:
         if name in JUDGEMENTS:
             good &= judgement(name)
+        elif name == "vertical":
+            words, most = VERTICAL
+            good &= shown("vertical flight under 50 m", count([RAIM_VERT, *words], DATA)[0], most)
         elif name == "memory":
             good &= shown("memory of the longest run", memory(RUNS["flight"][1][0]), MEMORY, unit="kB")
         else:
