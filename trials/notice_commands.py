@@ -21,6 +21,7 @@ TEXTS = {
     "A": "1980-01-06T00:00:00.000Z", "B": "2024-10-27T00:00:00.000Z", "C": "2024-10-27T00:01:00.000Z", "D": "2024-10-27T00:02:00.000Z",
     "E": "2024-10-27T00:03:00.000Z", "F": "2024-10-27T00:04:00.000Z", "G": "2024-10-27T00:05:00.000Z", "Z": "9999-12-31T23:59:59.999Z", "-": "-",
 }
+MISSING, NO_BOOK = ((3, "", f"notice: keeper fault: {why}\n") for why in ("missing", "no book"))
 KINDS = {"add": 0, "move": 1, "cancel": 2}
 
 
@@ -69,19 +70,21 @@ def differences(book, held):
 
 def try_book(book, notices):
     """Runs the commands, with a list behind each; answers how many were run, and what differed."""
-    held, wrong = [], []
+    held, wrong, is_made = [], [], False
     for notice in notices:
         answer = rule.answer(held, notice)
         if answer == "Done":
             held.append(notice)
+        # A move or a cancel makes no book.
+        is_made = is_made or notice[0] == "add"
         for command, wanted in [
             (words(notice), (0, "", "") if answer == "Done" else (2, "", f"notice: refused {answer}\n")),
             (["list"], (0, listing(held), "")),
         ]:
             found = run(book, command)
-            if found != wanted:
-                wrong.append(f"{command}: {found}, wanted {wanted}")
-    wrong.extend(differences(book, held))
+            if found != (wanted if is_made else MISSING):
+                wrong.append(f"{command}: {found}, wanted {wanted if is_made else MISSING}")
+    wrong.extend(differences(book, held) if is_made else ["a file was made"] * os.path.exists(book))
     return 2 * len(notices), wrong
 
 

@@ -60,13 +60,13 @@ def try_files(folder, count):
 
 
 def try_kills(folder, count):
-    """Kills the program while it takes a file of a hundred Adds; answers how many ended by themselves, what was held, and what was wrong."""
+    """Kills the program while it takes a file of a hundred Adds; answers how many ended by themselves, how many left no book, what was held, and what was wrong."""
     notices = [("add", number, 1 + number % 32, "B", "-") for number in range(1, 101)]
     path = os.path.join(folder, "file")
     write(path, notices)
     begin = time.monotonic()
     subprocess.run([BINARY, os.path.join(folder, "times.db"), "file", path], check=True)
-    usual, ended, held_counts, wrong = time.monotonic() - begin, 0, set(), 0
+    usual, ended, unmade, held_counts, wrong = time.monotonic() - begin, 0, 0, set(), 0
     for number in range(count):
         book = os.path.join(folder, f"killed{number}.db")
         process = subprocess.Popen([BINARY, book, "file", path], stdout=subprocess.DEVNULL, stderr=subprocess.DEVNULL)
@@ -75,6 +75,10 @@ def try_kills(folder, count):
         has_ended = process.wait() == 0
         ended += has_ended
         status, output, note = commands.run(book, ["list"])
+        if not has_ended and (status, output, note) in (commands.MISSING, commands.NO_BOOK):
+            # It was killed before there was a book.
+            unmade += 1
+            continue
         held = notices[: output.count("\n")]
         held_counts.add(len(held))
         if (status, note) != (0, "") or output != commands.listing(held) or (has_ended and held != notices):
@@ -83,7 +87,7 @@ def try_kills(folder, count):
         for line in commands.differences(book, held):
             wrong += 1
             print(f"kill {number}: {line}")
-    return ended, len(held_counts), wrong
+    return ended, unmade, len(held_counts), wrong
 
 
 def main():
@@ -92,8 +96,8 @@ def main():
     random.seed(int(sys.argv[3]) if len(sys.argv) > 3 else 1)
     with tempfile.TemporaryDirectory() as folder:
         wrong = try_files(folder, files)
-        ended, counts, torn = try_kills(folder, kills)
-    print(f"{files} files, {wrong} differences; {kills} kills, {ended} too late, {counts} different numbers of notices held, {torn} differences")
+        ended, unmade, counts, torn = try_kills(folder, kills)
+    print(f"{files} files, {wrong} differences; {kills} kills, {ended} too late, {unmade} before there was a book, {counts} different numbers of notices held, {torn} differences")
     return 1 if wrong or torn else 0
 
 

@@ -44,7 +44,7 @@ def usual_time(folder):
 def main():
     rounds = int(sys.argv[1]) if len(sys.argv) > 1 else 200
     random.seed(int(sys.argv[2]) if len(sys.argv) > 2 else 1)
-    ended, kept, wrong, held = 0, 0, 0, []
+    ended, unmade, kept, wrong, held = 0, 0, 0, 0, []
     with tempfile.TemporaryDirectory() as folder:
         usual = usual_time(folder)
         for round_number in range(rounds):
@@ -56,6 +56,10 @@ def main():
             ended += has_ended
             status, output, note = commands.run(book, ["list"])
             notice = ("add", number, 1 + number % 32, "B", "-")
+            if not held and not has_ended and (status, output, note) in (commands.MISSING, commands.NO_BOOK):
+                # It was killed before there was a book.
+                unmade += 1
+                continue
             before, after = commands.listing(held), commands.listing(held + [notice])
             if (status, note) != (0, "") or output not in ([after] if has_ended else [before, after]):
                 wrong += 1
@@ -66,7 +70,7 @@ def main():
             for line in commands.differences(book, held):
                 wrong += 1
                 print(f"round {round_number}: {line}")
-    print(f"{rounds} kills, {ended} too late, {kept} notices kept, {wrong} differences")
+    print(f"{rounds} kills, {ended} too late, {unmade} before there was a book, {kept} notices kept, {wrong} differences")
     return 1 if wrong else 0
 
 

@@ -3,9 +3,3 @@ pub mod Nanus
 pub mod Stages
 pub mod Drafts
 pub mod Answers
-pub mod Statuses
-pub mod FileCauses
-pub mod Accepted
-pub mod FileWords
-pub mod RunFacts
-pub mod Notes

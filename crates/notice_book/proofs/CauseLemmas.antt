@@ -41,6 +41,7 @@ from_start : (old mid new : Option Tables) (before then now : ℕ) (notice : Not
 from_start old mid new before then now notice status.Done same later cause = subst (λ o. NoticeCause o new before now notice status.Done) same cause
 from_start old mid new before then now notice (status.Refused why) same later cause = subst (λ o. NoticeCause o new before now notice (status.Refused why)) same cause
 from_start old mid new before then now notice status.KeeperFault same later cause = omega (arith, later, cause)
+from_start old mid new before then now notice (status.NotOpened why) same later cause = omega (arith, later, cause)
 from_start old mid new before then now notice status.Memory same later cause = tt
 from_start old mid new before then now notice status.Usage same later cause = cause
 from_start old mid new before then now notice status.WriteFault same later cause = cause
@@ -61,6 +62,8 @@ completed old new before now held holds failed fails work.List status.Usage caus
 completed old new before now held holds failed fails (work.Apply notice) status.Usage cause quiet calm = cause
 completed old new before now held holds failed fails work.List status.KeeperFault cause quiet calm = quiet cause
 completed old new before now held holds failed fails (work.Apply notice) status.KeeperFault cause quiet calm = quiet cause
+completed old new before now held holds failed fails work.List (status.NotOpened why) cause quiet calm = quiet cause
+completed old new before now held holds failed fails (work.Apply notice) (status.NotOpened why) cause quiet calm = quiet cause
 completed old new before now held holds failed fails work.List status.WriteFault cause quiet calm = calm cause.0
 completed old new before now held holds failed fails (work.Apply notice) status.WriteFault cause quiet calm = cause
 

@@ -4,3 +4,4 @@ pub mod LiveLemmas
 pub mod CauseLemmas
 pub mod OneAnswer
 pub mod AskedLemmas
+pub mod NextLemmas

@@ -82,7 +82,7 @@ one_answer tables notice (Err Memory) (Err KeeperFault) a b o p = absurd (o.1 re
 one_answer tables notice (Err Memory) (Err Memory) a b o p = absurd (o.1 refl)
 
 -- a notice that may come next is not refused
-completed : (t : Tables) (before now : ℕ) (notice : Notice) (result : Result (Unit {0}) BookFault) → IsKept t → Answers t notice result → HasBookCause before now result
+pub completed : (t : Tables) (before now : ℕ) (notice : Notice) (result : Result (Unit {0}) BookFault) → IsKept t → Answers t notice result → HasBookCause before now result
     → IsNext t.held notice → (Rose before now → ⊥) → IsOk result ⊎ (result ≡ Err Memory)
 completed t before now notice (Ok done) kept a cause next quiet = inl refl
 completed t before now notice (Err BadNotice) kept a cause next quiet = absurd (a next.formed)

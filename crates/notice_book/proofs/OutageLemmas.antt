@@ -1,13 +1,17 @@
 -- The entries one after the other.
 use Rattle.std.proofs.Common.{◌≡◌, ◌∙◌, refl, sym, ap, subst, ℕ, ◌<◌, Bool, true, false, cond, List, [], ◌∷◌, ◌++◌, map, Option, Some, None, arith, append_assoc}
-use Rattle.std.specs.Prelude.{filter, nat_lt, IfSome}
+use Rattle.std.specs.Prelude.{ℤ, ◌<ℤ◌, filter, nat_lt, All, IfSome}
 use Rattle.std.proofs.lemmas.Bool.{le-ltb, ltb-true}
 use Rattle.std.proofs.lemmas.List.{append-nil}
 use Rattle.raim_model.specs.declared.Outage.{Outage}
+use Rattle.text_lines.specs.Lines.{Text}
+use Rattle.gps_week.specs.GpsTime.{IsInstant}
+use Rattle.outage_notice.specs.Printing.{IsPrintable, ListsOutages}
 use Rattle.notice_model.specs.declared.notice.Notice.{Notice}
 use Rattle.notice_model.specs.declared.notice.Notice.TheVariants.{Add, Reschedule, Cancel}
 use Rattle.notice_model.specs.declared.notice.Live.{Live}
-use Rattle.notice_model.specs.Notices.{number_in, IsWellFormed}
+use Rattle.notice_model.specs.declared.notice.UtcOutage.{UtcOutage}
+use Rattle.notice_model.specs.Notices.{number_in, IsUtc, IsWellFormed}
 use Rattle.notice_model.specs.InEffect.{in_effect}
 use Rattle.notice_model.specs.Entries.{first_above}
 use Rattle.notice_laws.proofs.Lists.{Each, Each-weaker}
@@ -15,7 +19,8 @@ use Rattle.notice_laws.proofs.Maps.{Rising, all-above}
 use Rattle.notice_laws.proofs.Numbers.{book-rising, effects-each, each-from_all}
 use Rattle.notice_book.specs.Tables.{Tables}
 use Rattle.notice_book.specs.Gains.{IsKept}
-use Rattle.notice_book.specs.Outages.{outage_of}
+use Rattle.notice_book.specs.Outages.{outage_of, IsUtcOutage, at_leap_zero}
+use Rattle.notice_book.specs.RunCauses.{IsListed}
 
 -- the entries above a number
 abbrev above : ℕ → List Live → List Live
@@ -80,16 +85,16 @@ all-kept t kept =
     subst (λ es. above 0 es ≡ es) (sym kept.live) (all-above 0 (in_effect t.held) (effects-each (λ k. 0 < k) t.held t.held formed))
 
 -- these outages are those of the entries up to a number
-abbrev pub UpTo : ℕ → List Outage → Tables → Type 0
+abbrev pub UpTo : ℕ → List UtcOutage → Tables → Type 0
 UpTo number outages t = map outage_of t.live ≡ outages ++ map outage_of (filter (λ e. nat_lt number e.number) t.live)
 
 -- at first no entry is listed
-pub told_first : (told : Option Tables) (outages : List Outage) → IfSome told IsKept → outages ≡ [] → IfSome told (UpTo 0 outages)
+pub told_first : (told : Option Tables) (outages : List UtcOutage) → IfSome told IsKept → outages ≡ [] → IfSome told (UpTo 0 outages)
 told_first None outages kept none = tt
 told_first (Some t) outages kept none = rw (none, all-kept t kept) refl
 
 -- the next entry is the one above those that are listed
-pub told_next : (told now : Option Tables) (number : ℕ) (outages after : List Outage) (o : Outage) (e : Live) → IfSome told IsKept → now ≡ told → IfSome told (UpTo number outages)
+pub told_next : (told now : Option Tables) (number : ℕ) (outages after : List UtcOutage) (o : UtcOutage) (e : Live) → IfSome told IsKept → now ≡ told → IfSome told (UpTo number outages)
     → IfSome now (λ t. Some e ≡ first_above number t.live) → o ≡ outage_of e → after ≡ outages ++ o ∷ [] → IfSome told (UpTo e.number after)
 told_next None now number outages after o e kept same before found is pushed = tt
 told_next (Some t) now number outages after o e kept same before found is pushed =
@@ -99,10 +104,28 @@ told_next (Some t) now number outages after o e kept same before found is pushed
     ∙ ap (λ p. outages ++ p ∷ [] ++ map outage_of (above e.number t.live)) (sym is) ∙ ap (λ l. l ++ map outage_of (above e.number t.live)) (sym pushed)
 
 -- at last all are listed
-pub told_last : (told now : Option Tables) (number : ℕ) (outages : List Outage) → IfSome told IsKept → now ≡ told → IfSome told (UpTo number outages)
+pub told_last : (told now : Option Tables) (number : ℕ) (outages : List UtcOutage) → IfSome told IsKept → now ≡ told → IfSome told (UpTo number outages)
     → IfSome now (λ t. None ≡ first_above number t.live) → IfSome told (λ t. outages ≡ map outage_of (in_effect t.held))
 told_last None now number outages kept same before none = tt
 told_last (Some t) now number outages kept same before none =
     let n : None ≡ first_above number t.live = subst (λ n. IfSome n (λ t. None ≡ first_above number t.live)) same none in
     let end : above number t.live ≡ [] = none-above number t.live n in
     sym (append-nil outages) ∙ ap (λ es. outages ++ map outage_of es) (sym end) ∙ sym before ∙ ap (map outage_of) kept.live
+
+ends-printable : (start : ℤ) (end : Option ℤ) → IfSome end (λ e. (start <ℤ e) × IsUtc e) → IfSome end (IsInstant 0)
+ends-printable start None ends = tt
+ends-printable start (Some e) ends = (ends.1.0, ends.1.1)
+
+-- an outage of UTC has a line where no leap second was counted
+pub printable-at_zero : (o : UtcOutage) → IsUtcOutage o → IsPrintable 0 (at_leap_zero o)
+printable-at_zero o is = record { prn = is.0; start = (is.1.starts.0, is.1.starts.1); end = ends-printable o.start o.end is.1.ends }
+
+-- what is printed of these outages lists them
+pub listed : (told : Option Tables) (outages : List UtcOutage) (gps : List Outage) (text : Text) → All IsUtcOutage outages → IfSome told (λ t. outages ≡ map outage_of (in_effect t.held))
+    → gps ≡ map at_leap_zero outages → ListsOutages 0 gps text → IsListed told text
+listed told outages gps text ranges current same printed = record {
+  outages = outages;
+  ranges = ranges;
+  current = current;
+  printed = subst (λ (l : List Outage). ListsOutages 0 l text) same printed;
+}

@@ -1,4 +1,5 @@
 pub mod Tables
+pub mod Starts
 pub mod KeepCauses
 pub mod KeepFaults
 pub mod Gains

@@ -3,13 +3,14 @@ use Rattle.std.specs.Prelude.{ℕ}
 use Rattle.notice_book.specs.declared.fault.BookFault.{BookFault}
 use Rattle.notice_book.specs.declared.fault.BookFault.TheVariants as fault
 use Rattle.notice_book.specs.declared.status.NoticeStatus.{NoticeStatus}
-use Rattle.notice_book.specs.declared.status.NoticeStatus.TheVariants.{Done, Usage, Refused, KeeperFault, WriteFault, Memory}
+use Rattle.notice_book.specs.declared.status.NoticeStatus.TheVariants.{Done, Usage, Refused, KeeperFault, NotOpened, WriteFault, Memory}
 
 abbrev pub number_of : NoticeStatus → ℕ
 number_of Done = 0
 number_of Usage = 1
 number_of (Refused why) = 2
 number_of KeeperFault = 3
+number_of (NotOpened why) = 3
 number_of WriteFault = 4
 number_of Memory = 7
 
@@ -29,4 +30,5 @@ IsDoneOrRefused (Refused why) = Unit {0}
 IsDoneOrRefused Memory = Unit {0}
 IsDoneOrRefused Usage = ⊥
 IsDoneOrRefused KeeperFault = ⊥
+IsDoneOrRefused (NotOpened why) = ⊥
 IsDoneOrRefused WriteFault = ⊥

@@ -22,6 +22,7 @@ fn check_room<Q: Keeper>(keeper: &mut Q) -> Result<(), BookFault>
     ensures value { IfSome (Q.tables keeper.old) (λ t. IsRoomAnswer t.live result) }
     ensures formed { result ≢ Err BookFault.BadNotice }
     ensures same { Q.tables keeper.new ≡ Q.tables keeper.old }
+    ensures started { Q.started keeper.new ≡ Q.started keeper.old }
     ensures cause { HasBookCause (Q.faults keeper.old) (Q.faults keeper.new) result }
 {
     match keeper.live_count() {
@@ -41,6 +42,7 @@ fn found<Q: Keeper>(keeper: &mut Q, number: u32) -> Result<Live, BookFault>
     ensures formed { result ≢ Err BookFault.BadNotice }
     ensures sound { IfOk result (λ e. (e.number ≡ number) × IsLive e) }
     ensures same { Q.tables keeper.new ≡ Q.tables keeper.old }
+    ensures started { Q.started keeper.new ≡ Q.started keeper.old }
     ensures cause { HasBookCause (Q.faults keeper.old) (Q.faults keeper.new) result }
 {
     match keeper.find(number) {
@@ -56,6 +58,7 @@ fn change<Q: Keeper>(keeper: &mut Q, notice: &Notice) -> Result<Option<Live>, Bo
     ensures formed { result ≢ Err BookFault.BadNotice }
     ensures goes { IfOk result (GoesWith notice.now) }
     ensures same { Q.tables keeper.new ≡ Q.tables keeper.old }
+    ensures started { Q.started keeper.new ≡ Q.started keeper.old }
     ensures cause { HasBookCause (Q.faults keeper.old) (Q.faults keeper.new) result }
 {
     match *notice {
@@ -98,6 +101,7 @@ fn answer<Q: Keeper>(keeper: &mut Q, notice: &Notice) -> Result<(), BookFault>
     ensures formed { OnOk result (IsWellFormed notice.now) }
     ensures unchanged { OnErr result (Q.tables keeper.new ≡ Q.tables keeper.old) }
     ensures again { IfSome (Q.tables keeper.new) IsKept }
+    ensures started { Q.started keeper.new ≡ Q.started keeper.old }
     ensures cause { HasBookCause (Q.faults keeper.old) (Q.faults keeper.new) result }
 {
     if !is_well_formed(notice) {
@@ -137,6 +141,7 @@ pub fn apply<Q: Keeper>(keeper: &mut Q, notice: &Notice) -> Result<(), BookFault
 
     ensures unchanged { OnErr result (Q.tables keeper.new ≡ Q.tables keeper.old) }
     ensures again { IfSome (Q.tables keeper.new) IsKept }
+    ensures started { Q.started keeper.new ≡ Q.started keeper.old }
     ensures cause { HasBookCause (Q.faults keeper.old) (Q.faults keeper.new) result }
 
     // A notice that may come next is accepted where the keeper does not fail, but for want of memory.

@@ -14,17 +14,16 @@ mod note;
 mod outages;
 mod run;
 mod status;
-#[cfg(test)]
-mod tests;
 
 pub use accept::apply;
+pub use command::asks_to_add;
 pub use fault::BookFault;
 pub use in_order::{BookStop, apply_all};
-pub use keeper::{KeepFault, Keeper};
+pub use keeper::{KeepFault, Keeper, OpenFault};
 pub use laws::a_notice_has_one_answer;
 pub use mem_keeper::MemKeeper;
 pub use note::{fault_text, note_line};
-pub use notice_model::{Live, Notice};
+pub use notice_model::{Live, Notice, UtcOutage};
 pub use outages::outages_now;
 pub use run::notice_run;
 pub use status::NoticeStatus;

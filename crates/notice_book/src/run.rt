@@ -6,6 +6,8 @@ ghost use Rattle.raim_base.specs.Causes.{Rose, GrowsByFront};
 ghost use Rattle.notice_model.specs.declared.notice.Notice.{Notice};
 ghost use Rattle.notice_book.specs.Gains.{IsKept};
 ghost use Rattle.notice_book.specs.Commands.{command_of, asked_by, Asked};
+ghost use Rattle.notice_book.specs.Starts.{started_with};
+ghost use Rattle.notice_book.specs.Asking.{started_by};
 ghost use Rattle.notice_book.specs.RunCauses.{NoticeCause, ListCause, WorkCause};
 ghost use Rattle.notice_book.specs.Notes.{note_of};
 ghost use Rattle.notice_book.specs.Statuses.{status_for, IsDoneOrRefused};
@@ -13,7 +15,7 @@ ghost use Rattle.notice_book.specs.Statuses.{status_for, IsDoneOrRefused};
 use crate::accept::apply;
 use crate::command::{Command, Work, read_command};
 use crate::note::note_line;
-use crate::outages::outages_now;
+use crate::outages::{gps_outages, outages_now};
 use crate::{BookFault, KeepFault, Keeper, NoticeStatus};
 use notice_model::Notice;
 use outage_notice::print_outages;
@@ -37,6 +39,7 @@ fn accept<Q: Keeper>(keeper: &mut Q, notice: &Notice) -> NoticeStatus
     ensures cause { NoticeCause (Q.tables keeper.old) (Q.tables keeper.new) (Q.faults keeper.old) (Q.faults keeper.new) notice.now result }
     ensures unchanged { result ≢ NoticeStatus.Done → Q.tables keeper.new ≡ Q.tables keeper.old }
     ensures again { IfSome (Q.tables keeper.new) IsKept }
+    ensures started { Q.started keeper.new ≡ Q.started keeper.old }
     ensures later { Q.faults keeper.old ≤ Q.faults keeper.new }
 {
     match apply(keeper, notice) {
@@ -52,11 +55,15 @@ fn list<Q: Keeper, K: Sink>(alloc: Global, keeper: &mut Q, out: &mut K) -> Notic
         (K.contents out.old) (K.contents out.new) (K.faults out.old) (K.faults out.new) result }
     ensures same { Q.tables keeper.new ≡ Q.tables keeper.old }
     ensures unchanged { result ≢ NoticeStatus.Done → result ≢ NoticeStatus.WriteFault → (K.contents out.new ≡ K.contents out.old) × (K.faults out.new ≡ K.faults out.old) }
+    ensures started { Q.started keeper.new ≡ Q.started keeper.old }
     ensures later { (Q.faults keeper.old ≤ Q.faults keeper.new) × (K.faults out.old ≤ K.faults out.new) }
 {
     let outages = match outages_now(alloc, keeper) {
         Ok(outages) => outages,
         Err(why) => return status_of(why),
+    };
+    let Ok(outages) = gps_outages(alloc, &outages) else {
+        return NoticeStatus::Memory;
     };
     let Ok(text) = print_outages(alloc, &outages, 0) else {
         return NoticeStatus::Memory;
@@ -82,11 +89,13 @@ fn work<Q: Keeper, K: Sink>(
     ensures read { command.now.work ≡ Work.List → Q.tables keeper.new ≡ Q.tables keeper.old }
     ensures unchanged { result ≢ NoticeStatus.Done → result ≢ NoticeStatus.WriteFault → (K.contents out.new ≡ K.contents out.old) × (K.faults out.new ≡ K.faults out.old) }
     ensures quiet { (notice : Notice) → command.now.work ≡ Work.Apply notice → (K.contents out.new ≡ K.contents out.old) × (K.faults out.new ≡ K.faults out.old) }
+    ensures started { Q.started keeper.new ≡ started_with command.now.book.now (Q.started keeper.old) }
     ensures later { (Q.faults keeper.old ≤ Q.faults keeper.new) × (K.faults out.old ≤ K.faults out.new) }
 {
     match keeper.start(command.book) {
         Ok(()) => {}
         Err(KeepFault::Failed) => return NoticeStatus::KeeperFault,
+        Err(KeepFault::NotOpened { why }) => return NoticeStatus::NotOpened { why },
         Err(KeepFault::Memory) => return NoticeStatus::Memory,
     }
     match command.work {
@@ -112,6 +121,7 @@ fn answer<Q: Keeper, K: Sink>(
     ensures read { IfSome (command_of (map string_bytes words.now)) (λ asked. asked.work ≡ Work.List → Q.tables keeper.new ≡ Q.tables keeper.old) }
     ensures unchanged { result ≢ NoticeStatus.Done → result ≢ NoticeStatus.WriteFault → (K.contents out.new ≡ K.contents out.old) × (K.faults out.new ≡ K.faults out.old) }
     ensures quiet { IfSome (command_of (map string_bytes words.now)) (λ asked. (notice : Notice) → asked.work ≡ Work.Apply notice → (K.contents out.new ≡ K.contents out.old) × (K.faults out.new ≡ K.faults out.old)) }
+    ensures started { Q.started keeper.new ≡ started_by (command_of (map string_bytes words.now)) (Q.started keeper.old) }
     ensures later { (Q.faults keeper.old ≤ Q.faults keeper.new) × (K.faults out.old ≤ K.faults out.new) }
 {
     match read_command(words) {
@@ -138,6 +148,9 @@ pub fn notice_run<Q: Keeper, K: Sink>(
     // The words have no form, and then the keeper is not called.
     ensures usage { (result ≡ NoticeStatus.Usage) ↔ (command_of (map string_bytes words.now) ≡ None) }
     ensures uncalled { result ≡ NoticeStatus.Usage → Q.faults keeper.new ≡ Q.faults keeper.old }
+
+    // It is started once, from the book that the words name; of words that have no form it is not.
+    ensures started { Q.started keeper.new ≡ started_by (command_of (map string_bytes words.now)) (Q.started keeper.old) }
 
     // What each other status says of the work that the words ask.
     ensures cause { IfSome (command_of (map string_bytes words.now)) (λ asked.

@@ -1,9 +1,7 @@
 //! The program `notice`: what a process does with its words, its database, its files and its streams.
 #![tactic(auto)]
 
-mod process;
-
-use process::run_process;
+use notice_process::run_process;
 use std::process::ExitCode;
 
 fn main(rt: HostRuntime) -> ExitCode {

@@ -14,9 +14,13 @@ target_in (Add number prn start end) = None
 target_in (Reschedule number target start end) = Some target
 target_in (Cancel number target) = Some target
 
+-- the first millisecond after the year 9999, in UTC since the GPS epoch
+abbrev pub end_of_utc : ℤ
+end_of_utc = pos 253086336000000
+
 -- a time of UTC from the GPS epoch to the end of the year 9999, in milliseconds since the epoch
 abbrev pub IsUtc : ℤ → Type 0
-IsUtc ms = (pos 0 ≤ℤ ms) × (ms <ℤ pos 253086336000000)
+IsUtc ms = (pos 0 ≤ℤ ms) × (ms <ℤ end_of_utc)
 
 -- an end, where there is one, is after the start
 pub record IsSpan (start : ℤ) (end : Option ℤ) : Type 0 where

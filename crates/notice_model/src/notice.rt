@@ -1,5 +1,8 @@
 // Plain data of notices.
 
+/// The end of UTC here: the first millisecond after the year 9999, since the GPS epoch.
+pub const END_OF_UTC: i64 = 253_086_336_000_000;
+
 /// A notice about the outage of a satellite. Times are milliseconds of UTC since the GPS epoch.
 #[derive(Clone, Copy, Debug, PartialEq, Eq)]
 pub enum Notice {
@@ -28,6 +31,14 @@ pub enum Notice {
 #[derive(Clone, Copy, Debug, PartialEq, Eq)]
 pub struct Live {
     pub number: u32,
+    pub prn: u8,
+    pub start: i64,
+    pub end: Option<i64>,
+}
+
+/// An outage with times of UTC, in milliseconds since the GPS epoch: from `start`, up to `end` where it has one.
+#[derive(Clone, Copy, Debug, PartialEq, Eq)]
+pub struct UtcOutage {
     pub prn: u8,
     pub start: i64,
     pub end: Option<i64>,

@@ -1,4 +1,6 @@
 // The keeper over a connection, or over the fault of its opening. It tells no tables.
+ghost use Rattle.notice_book.specs.KeepCauses.{HasKeepCause};
+
 use crate::fault::counted;
 use crate::store::{commit, entry_above, entry_at, entry_count, greatest_number, make_tables};
 use notice_book::{KeepFault, Keeper, Live, Notice};
@@ -17,6 +19,25 @@ impl<S: Alter> SqliteKeeper<S> {
     pub fn adopt(_alloc: Global, opened: Result<Connection<S>, KeepFault>) -> SqliteKeeper<S> {
         SqliteKeeper { opened, faults: 0 }
     }
+
+    /// The database, or the fault of its opening.
+    pub fn into_opened(self) -> Result<Connection<S>, KeepFault> {
+        self.opened
+    }
+}
+
+impl<S: Alter + Drop> SqliteKeeper<S> {
+    // Takes what opening a database gave in place of what it had.
+    pub(crate) fn open(&mut self, opened: Result<Connection<S>, KeepFault>) -> Result<(), KeepFault>
+        ensures cause { HasKeepCause self.old.faults self.new.faults result }
+    {
+        let answer = match &opened {
+            Ok(_) => Ok(()),
+            Err(fault) => Err(*fault),
+        };
+        self.opened = opened;
+        counted(&mut self.faults, answer)
+    }
 }
 
 impl<S: Alter> Keeper for SqliteKeeper<S> {
@@ -25,6 +46,8 @@ impl<S: Alter> Keeper for SqliteKeeper<S> {
     ghost tables = { λ _. None };
 
     ghost faults = { λ k. k.faults };
+
+    ghost started = { λ _. None };
 
     fn start(&mut self, _path: &str) -> Result<(), KeepFault> {
         let answer = match &mut self.opened {
