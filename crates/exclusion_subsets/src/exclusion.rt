@@ -21,31 +21,31 @@ ghost use Rattle.slope_test.specs.Named.{named, is_pass};
 use crate::pairs::{recall, remember};
 use fix_interval::{Iv, Iv64};
 use geom_inverse::{Row, Sym4, det_64, gram_of_sums, sums, sums_less};
-use raim_model::{Cmp, Why};
-use slope_laws::{Shift, SubsetVerdict};
+use raim_model::{Cmp, Verdict, Why};
+use slope_laws::Shift;
 use slope_test::detect_from;
 
 /// In the place of a determinant that is not known yet.
 pub(crate) const NONE: Iv64 = Iv64 { lo: 0, hi: 1 };
 
 /// The verdict of a list without the satellite `prn`.
-pub(crate) fn name_without(prn: u8, verdict: SubsetVerdict) -> SubsetVerdict
+pub(crate) fn name_without(prn: u8, verdict: Verdict) -> Verdict
     ensures { result ≡ named_without prn verdict }
 {
     match verdict {
-        SubsetVerdict::Straddle(Cmp::Det) => SubsetVerdict::Straddle(Cmp::DetWithout(prn)),
-        SubsetVerdict::Straddle(Cmp::Slope(tested)) => {
-            SubsetVerdict::Straddle(Cmp::SlopeWithout(prn, tested))
+        Verdict::Undecided(Cmp::Det) => Verdict::Undecided(Cmp::DetWithout(prn)),
+        Verdict::Undecided(Cmp::Slope(tested)) => {
+            Verdict::Undecided(Cmp::SlopeWithout(prn, tested))
         }
         _ => verdict,
     }
 }
 
 /// Whether a list passes.
-pub(crate) fn passes(verdict: SubsetVerdict) -> bool
+pub(crate) fn passes(verdict: Verdict) -> bool
     ensures { result ≡ is_pass verdict }
 {
-    matches!(verdict, SubsetVerdict::Pass)
+    matches!(verdict, Verdict::Available)
 }
 
 /// The verdict on the list `rest` without the row at place `j`, where the sums over all rows, the determinant of `rest` and those
@@ -60,7 +60,7 @@ pub(crate) fn subset(
     dets: &mut [Iv64; 32],
     known: usize,
     kappa_less: Iv,
-) -> SubsetVerdict
+) -> Verdict
     requires few { length rows.now ≤ 32 }
     requires place { j < length rows.now }
     requires all { sym_ends all.now ≡ sums_of (rows_ends rows.now) }
@@ -69,7 +69,7 @@ pub(crate) fn subset(
     requires known { known ≤ j }
     requires dets { AreDeterminants dets.old 0 known (without j (rows_ends rows.now)) }
     ensures verdict { result ≡ detect_of shift (without j (named rows.now)) (ends kappa_less) }
-    ensures dets { result ≡ SubsetVerdict.Pass → AreDeterminants dets.new 0 (length rest.now) (without j (rows_ends rows.now)) }
+    ensures dets { result ≡ Verdict.Available → AreDeterminants dets.new 0 (length rest.now) (without j (rows_ends rows.now)) }
 {
     let all_less = sums_less(all, rows, j);
     detect_from(
@@ -85,13 +85,7 @@ pub(crate) fn subset(
 }
 
 /// The first verdict on a list without one row that does not pass, where the determinants of these lists are at hand.
-fn subsets(
-    shift: Shift,
-    rows: &[Row],
-    all: &Sym4,
-    whole: &[Iv64; 32],
-    kappa_less: Iv,
-) -> SubsetVerdict
+fn subsets(shift: Shift, rows: &[Row], all: &Sym4, whole: &[Iv64; 32], kappa_less: Iv) -> Verdict
     requires few { length rows.now ≤ 32 }
     requires some { 1 ≤ length rows.now }
     requires all { sym_ends all.now ≡ sums_of (rows_ends rows.now) }
@@ -127,16 +121,16 @@ fn subsets(
         rest[j] = rows[j];
         start += j;
     }
-    SubsetVerdict::Pass
+    Verdict::Available
 }
 
 /// The test of a list of rows and of each without one.
-fn excluded(shift: Shift, rows: &[Row], kappa: Iv, kappa_less: Iv) -> SubsetVerdict
+fn excluded(shift: Shift, rows: &[Row], kappa: Iv, kappa_less: Iv) -> Verdict
     requires few { length rows.now ≤ 32 }
     ensures { result ≡ exclude_of shift (named rows.now) (ends kappa) (ends kappa_less) }
 {
     if rows.len() < 6 {
-        return SubsetVerdict::Fail(Why::Few);
+        return Verdict::Unavailable(Why::Few);
     }
     let all = sums(rows);
     let determinant = det_64(&gram_of_sums(&all, rows));
@@ -150,7 +144,7 @@ fn excluded(shift: Shift, rows: &[Row], kappa: Iv, kappa_less: Iv) -> SubsetVerd
 
 /// The test of a list of at most 32 rows, in rising PRN, for fault exclusion: that of `detect_over` on the whole list under `kappa`, and then
 /// on each list without one row, by rising PRN of the row removed, under `kappa_less`, the factor for one row fewer.
-pub fn exclude_over(shift: Shift, rows: &[Row], kappa: Iv, kappa_less: Iv) -> SubsetVerdict
+pub fn exclude_over(shift: Shift, rows: &[Row], kappa: Iv, kappa_less: Iv) -> Verdict
     requires few { length rows.now ≤ 32 }
     ensures exact { result ≡ exclude_of shift (named rows.now) (ends kappa) (ends kappa_less) }
     // what is decided is the reason of every choice of rows and factors inside, or that there is none
@@ -160,20 +154,20 @@ pub fn exclude_over(shift: Shift, rows: &[Row], kappa: Iv, kappa_less: Iv) -> Su
     ensures isotone { (wide : List NamedRow) (wide_kappa wide_less : Ends) → NamedRowsInside (named rows.now) wide → IsInside (ends kappa) wide_kappa → IsInside (ends kappa_less) wide_less
         → LeavesVerdict (exclude_of shift wide wide_kappa wide_less) result }
     // there are too few exactly below six
-    ensures few { result ≡ SubsetVerdict.Fail Few ↔ length rows.now < 6 }
+    ensures few { result ≡ Verdict.Unavailable Few ↔ length rows.now < 6 }
 {
     excluded(shift, rows, kappa, kappa_less)
 }
 
 /// `exclude_over` for the horizontal shift.
-pub fn exclude(rows: &[Row], kappa: Iv, kappa_less: Iv) -> SubsetVerdict
+pub fn exclude(rows: &[Row], kappa: Iv, kappa_less: Iv) -> Verdict
     requires few { length rows.now ≤ 32 }
     ensures exact { result ≡ exclude_of Shift.Horizontal (named rows.now) (ends kappa) (ends kappa_less) }
     ensures right { (gs : List ExactRow) (k k_less : Fraction) → NamedRowsLie (named rows.now) gs → Lies (ends kappa) 38 k → Lies (ends kappa_less) 38 k_less
         → Tells result (reason_of horizontal true k k_less gs) }
     ensures isotone { (wide : List NamedRow) (wide_kappa wide_less : Ends) → NamedRowsInside (named rows.now) wide → IsInside (ends kappa) wide_kappa → IsInside (ends kappa_less) wide_less
         → LeavesVerdict (exclude_of Shift.Horizontal wide wide_kappa wide_less) result }
-    ensures few { result ≡ SubsetVerdict.Fail Few ↔ length rows.now < 6 }
+    ensures few { result ≡ Verdict.Unavailable Few ↔ length rows.now < 6 }
 {
     exclude_over(Shift::Horizontal, rows, kappa, kappa_less)
 }

@@ -13,9 +13,9 @@ ghost use Rattle.slope_test.specs.Named.{named};
 
 use crate::exclusion::{NONE, name_without, passes, subset};
 use fix_interval::Iv;
-use geom_inverse::{Row, Sym4, det_64, det_without, gram_of_sums, sums};
-use raim_model::Why;
-use slope_laws::{Shift, SubsetVerdict};
+use geom_inverse::{Row, Sym4, det_without, sums};
+use raim_model::{Verdict, Why};
+use slope_laws::Shift;
 use slope_test::{Marks, detect_told};
 
 /// The verdict on the list `rest` without the row at place `j`, where the sums over all rows are at hand.
@@ -26,7 +26,7 @@ fn subset_alone(
     j: usize,
     rest: &[Row],
     kappa_less: Iv,
-) -> SubsetVerdict
+) -> Verdict
     requires few { length rows.now ≤ 32 }
     requires place { j < length rows.now }
     requires all { sym_ends all.now ≡ sums_of (rows_ends rows.now) }
@@ -57,7 +57,7 @@ fn subset_told(
     rest: &[Row],
     kappa_less: Iv,
     known: &mut Marks,
-) -> SubsetVerdict
+) -> Verdict
     requires few { length rows.now ≤ 32 }
     requires place { j < length rows.now }
     requires all { sym_ends all.now ≡ sums_of (rows_ends rows.now) }
@@ -67,7 +67,7 @@ fn subset_told(
     ensures known { ListsPass shift (named rows.now) (ends kappa_less) known.new.places }
 {
     if known.holds(j) {
-        return SubsetVerdict::Pass;
+        return Verdict::Available;
     }
     let detected = subset_alone(shift, rows, all, j, rest, kappa_less);
     if passes(detected) {
@@ -83,7 +83,7 @@ fn subsets_told(
     all: &Sym4,
     kappa_less: Iv,
     known: &mut Marks,
-) -> SubsetVerdict
+) -> Verdict
     requires few { length rows.now ≤ 32 }
     requires some { 1 ≤ length rows.now }
     requires all { sym_ends all.now ≡ sums_of (rows_ends rows.now) }
@@ -103,7 +103,7 @@ fn subsets_told(
         }
         rest[j] = rows[j];
     }
-    SubsetVerdict::Pass
+    Verdict::Available
 }
 
 /// The answer of `exclude_over`, where the slopes of all rows at the places of `slopes`, and the lists without the row at a place of
@@ -115,7 +115,7 @@ pub fn exclude_over_told(
     kappa_less: Iv,
     slopes: &mut Marks,
     lists: &mut Marks,
-) -> SubsetVerdict
+) -> Verdict
     requires few { length rows.now ≤ 32 }
     requires slopes { SlopesPass shift (named rows.now) (ends kappa) slopes.old.places }
     requires lists { ListsPass shift (named rows.now) (ends kappa_less) lists.old.places }
@@ -124,11 +124,10 @@ pub fn exclude_over_told(
     ensures lists { ListsPass shift (named rows.now) (ends kappa_less) lists.new.places }
 {
     if rows.len() < 6 {
-        return SubsetVerdict::Fail(Why::Few);
+        return Verdict::Unavailable(Why::Few);
     }
     let all = sums(rows);
-    let determinant = det_64(&gram_of_sums(&all, rows));
-    let whole = detect_told(shift, rows, &all, determinant, kappa, slopes);
+    let whole = detect_told(shift, rows, &all, kappa, slopes);
     if !passes(whole) {
         return whole;
     }

@@ -9,7 +9,7 @@ use Rattle.site_laws.specs.Places.{PlaceEnds, place_over_of}
 use Rattle.site_laws.specs.Frames.{FrameEnds, frame_of}
 use Rattle.case_laws.specs.SightOver.{mask_of, sight_on, sight_over}
 use Rattle.piece_verdict.specs.Views.{seen_from}
-use Rattle.piece_verdict.proofs.LegLemmas.{some_point}
+use Rattle.piece_verdict.specs.LegLaws.{some_point}
 
 -- from the frame of the place on the leg that is found
 pub seen_from_leg : (c : Case) (first last : ℤ) (k : ℕ) → k + 1 < length c.route → (frame : FrameEnds) (box : PlaceEnds)

@@ -2,7 +2,6 @@ pub mod Orders
 pub mod FlightTimes
 pub mod CutLemmas
 pub mod Outs
-pub mod LegLemmas
 pub mod FromLeg
 pub mod Biases
 pub mod Reaches

@@ -8,8 +8,9 @@ use Rattle.std.proofs.lemmas.List.{length-map, get_or_default}
 use Rattle.raim_model.specs.declared.almanac.AlmRecord.{AlmRecord}
 use Rattle.raim_model.specs.declared.verdict.Why.TheVariants.{Few}
 use Rattle.raim_model.specs.declared.verdict.Cmp.TheVariants.{Mask}
+use Rattle.raim_model.specs.declared.verdict.Verdict.{Verdict}
 use Rattle.raim_model.specs.declared.verdict.Verdict.TheVariants as verdict
-use Rattle.raim_model.specs.AlmanacInForce.{time_of, in_force}
+use Rattle.raim_model.specs.AlmanacInForce.{in_force}
 use Rattle.raim_model.specs.AlmanacRanges.{IsApplicable, AreRecords}
 use Rattle.raim_model.specs.CaseRanges.{IsCase}
 use Rattle.raim_model.specs.PointVerdict.{least_count}
@@ -19,11 +20,10 @@ use Rattle.raim_model.specs.Usable.{is_usable}
 use Rattle.flight_laws.proofs.Usable.{records_in_force}
 use Rattle.fix_interval.specs.Ends.{Ends}
 use Rattle.site_laws.specs.Frames.{FrameEnds}
-use Rattle.slope_laws.specs.declared.subset.SubsetVerdict.{SubsetVerdict}
 use Rattle.slope_laws.specs.Rows.{NamedRow}
 use Rattle.slope_laws.specs.ShiftSlopes.{slopes_for}
 use Rattle.verdict_laws.specs.Sights.{Sight, Visible, Hidden, Straddles, Sighted, sighted_over, one_if_possible, count_possible, or_straddling, first_straddling, with_row, rows_seen}
-use Rattle.verdict_laws.specs.PieceVerdict.{test_by, verdict_given, verdict_by, piece_verdict_by}
+use Rattle.verdict_laws.specs.PieceVerdict.{test_by, verdict_by, piece_verdict_by}
 use Rattle.case_laws.specs.PieceVerdict.{seen_of}
 use Rattle.case_laws.specs.SightOver.{mask_of, sight_over}
 use Rattle.piece_verdict.specs.declared.alert.Alert.{Alert}
@@ -46,11 +46,9 @@ seen_whole c first last frame mask recs r m e =
     ∙ same_sights (seen_from frame (mask_of c.limits) c.limits.weights.items first last) (λ rec. sight_over c rec first last) e (filter (is_usable c.outages first) (in_force first c.almanacs))
 
 -- the records at the place of the almanac in force are its records
-pub force_at : (c : Case) (times : List ℤ) (place : ℕ) (u : ℤ) (here recs : List AlmRecord) → map time_of c.almanacs ≡ times → place < length times → slice_index_or c.almanacs place [] ≡ in_force u c.almanacs
+pub force_here : (c : Case) (place : ℕ) (u : ℤ) (here recs : List AlmRecord) → place < length c.almanacs → slice_index_or c.almanacs place [] ≡ in_force u c.almanacs
     → here ≡ slice_index_or c.almanacs place here → recs ≡ here → recs ≡ in_force u c.almanacs
-force_at c times place u here recs t p f h r =
-    let n : length times ≡ length c.almanacs = ap length (sym t) ∙ length-map c.almanacs time_of in
-    r ∙ h ∙ get_or_default c.almanacs place here [] (omega arith) ∙ f
+force_here c place u here recs p f h r = r ∙ h ∙ get_or_default c.almanacs place here [] p ∙ f
 
 -- the records of the almanac in force may be asked at each millisecond of the flight
 pub all_applicable : (c : Case) → IsCase c → (recs : List AlmRecord) (u t : ℤ) → recs ≡ in_force u c.almanacs → (flight_of c.route).first ≤ℤ t → t <ℤ (flight_of c.route).end → All (λ rec. IsApplicable rec t) recs
@@ -89,8 +87,8 @@ unfolding piece_verdict_by verdict_by
 is_masked alert c first last prn h e = rw (le-ltb (count_possible (seen_of c first last)) (least_count c.limits.exclude) h, e) refl
 
 -- the rows are tested
-pub is_tested : (alert : Alert) (c : Case) (first last : ℤ) (rows : List NamedRow) (v : SubsetVerdict) → least_count c.limits.exclude ≤ count_possible (seen_of c first last) → first_straddling (seen_of c first last) ≡ None
-    → rows ≡ rows_seen (seen_of c first last) → v ≡ test_by (slopes_for (shift_of alert)) c.limits (limit_of alert c) rows → verdict_given v ≡ verdict_against alert c first last
+pub is_tested : (alert : Alert) (c : Case) (first last : ℤ) (rows : List NamedRow) (v : Verdict) → least_count c.limits.exclude ≤ count_possible (seen_of c first last) → first_straddling (seen_of c first last) ≡ None
+    → rows ≡ rows_seen (seen_of c first last) → v ≡ test_by (slopes_for (shift_of alert)) c.limits (limit_of alert c) rows → v ≡ verdict_against alert c first last
 unfolding piece_verdict_by verdict_by
 is_tested alert c first last rows v h s e t =
-    rw (le-ltb (count_possible (seen_of c first last)) (least_count c.limits.exclude) h, s) (ap verdict_given (t ∙ ap (λ rs. test_by (slopes_for (shift_of alert)) c.limits (limit_of alert c) rs) e))
+    rw (le-ltb (count_possible (seen_of c first last)) (least_count c.limits.exclude) h, s) (t ∙ ap (λ rs. test_by (slopes_for (shift_of alert)) c.limits (limit_of alert c) rs) e)

@@ -1,6 +1,7 @@
 -- The laws that a judge of pieces owes.
-use Rattle.std.specs.Prelude.{◌≡◌, ℕ, ◌≤◌, ◌-◌, ℤ, ◌≤ℤ◌, true, false, Bool, List, [], ◌∷◌, length, slice_index_or, Contains}
-use Rattle.std.proofs.Common.{arith, sym, subst}
+use Rattle.std.specs.Prelude.{◌≡◌, ℕ, ◌≤◌, ◌-◌, ℤ, ◌+◌, ◌≤ℤ◌, ◌<ℤ◌, true, false, Bool, List, [], ◌∷◌, length, slice_index_or, Contains, Some, None}
+use Rattle.std.specs.declared.option.Option.{Option}
+use Rattle.std.proofs.Common.{arith, sym, subst, ◌∙◌}
 use Rattle.std.proofs.lemmas.Int.{ints}
 use Rattle.std.proofs.lemmas.List.Elements.{All-contains_itself}
 use Rattle.raim_model.specs.declared.almanac.AlmRecord.{AlmRecord}
@@ -8,6 +9,7 @@ use Rattle.raim_model.specs.AlmanacInForce.{in_force}
 use Rattle.raim_model.specs.CaseRanges.{IsListed}
 use Rattle.raim_model.specs.CaseCuts.{MayBeJudged}
 use Rattle.raim_model.specs.Judgements.{is_certain}
+use Rattle.raim_model.specs.Route.{time_at}
 use Rattle.raim_model.specs.Solution.{Case}
 use Rattle.flight_laws.proofs.Usable.{judged_inside, force_same}
 use Rattle.almanac_laws.proofs.Nearest.{is_one, nearest_first}
@@ -17,6 +19,9 @@ use Rattle.piece_verdict.specs.declared.alert.Alert.{Alert}
 use Rattle.piece_verdict.specs.declared.alert.Alert.TheVariants.{Horizontal, Vertical}
 use Rattle.piece_verdict.specs.declared.known.Known.{Known}
 use Rattle.piece_verdict.specs.Alerts.{IsAlert, MayBeJudgedAgainst, shift_of, limit_of, verdict_against}
+use Rattle.piece_verdict.specs.declared.here.Here.{Here}
+use Rattle.piece_verdict.specs.Here.{IsHere, KnowsHere}
+use Rattle.piece_verdict.specs.LegLaws.{through}
 use Rattle.piece_verdict.specs.Hidden.{AreHidden, KnowsHidden}
 use Rattle.piece_verdict.specs.Known.{IsSure, rows_over, factor_for, KnowsSlopes, KnowsLists, Knows}
 use Rattle.slope_laws.specs.Rows.{NamedRowsInside}
@@ -96,9 +101,27 @@ lists_inside alert c marks first last a b p knows low ordered high =
           i lt t;
     }
 
+-- the leg and the almanac in force are the same on each piece inside
+here_inside : (c : Case) (here : Here) (first last a b : ℤ) → MayBeJudged c first last → IsHere c here first → first ≤ℤ a → a ≤ℤ b → b ≤ℤ last → IsHere c here a
+here_inside c here first last a b p h low ordered high =
+    let s = h.started in
+    let n : last <ℤ time_at c.route (here.leg + 1) = through c first last p.piece (omega (arith, ints)) here.leg h.within h.started h.not_over in
+    record {
+      within = h.within;
+      started = omega (arith, ints);
+      not_over = omega (arith, ints);
+      listed = h.listed;
+      serves = h.serves ∙ sym (force_same c first last a p.piece low (omega (arith, ints)));
+    }
+
+here_stays : (c : Case) (here : Option Here) (first last a b : ℤ) → MayBeJudged c first last → KnowsHere c here first → first ≤ℤ a → a ≤ℤ b → b ≤ℤ last → KnowsHere c here a
+here_stays c None first last a b p h low ordered high = tt
+here_stays c (Some here) first last a b p h low ordered high = here_inside c here first last a b p h low ordered high
+
 -- what is known of a piece is known of each piece inside
 pub known_stays : (alert : Alert) (c : Case) (known : Known) (first last a b : ℤ) → MayBeJudgedAgainst alert c first last → Knows alert c known first last → first ≤ℤ a → a ≤ℤ b → b ≤ℤ last → Knows alert c known a b
 known_stays alert c known first last a b p knows low ordered high = record {
+  here = here_stays c known.here first last a b p.judged knows.here low ordered high;
   hidden = hidden_stays c known.hidden.places first last a b p.judged knows.hidden low ordered high;
   slopes = slopes_inside alert c known.slopes.places first last a b p knows.slopes low ordered high;
   lists = lists_inside alert c known.lists.places first last a b p knows.lists low ordered high;

@@ -1,4 +1,4 @@
--- What is known of a piece of a case's flight: which satellites are hidden, by their place in the almanac in force; which slopes
+-- What is known of a piece of a case's flight: its leg and the almanac in force; which satellites are hidden, by their place in the almanac in force; which slopes
 -- of all rows, and which lists without one row, pass, by the places of the visible satellites.
 use Rattle.std.specs.Prelude.{◌≡◌, ℕ, ◌-◌, ℤ, Bool, true, false, List, length, slice_index_or, None}
 use Rattle.raim_model.specs.Solution.{Case}
@@ -11,6 +11,7 @@ use Rattle.case_laws.specs.PieceVerdict.{seen_of}
 use Rattle.piece_verdict.specs.declared.alert.Alert.{Alert}
 use Rattle.piece_verdict.specs.declared.known.Known.{Known}
 use Rattle.piece_verdict.specs.Alerts.{shift_of, limit_of}
+use Rattle.piece_verdict.specs.Here.{KnowsHere}
 use Rattle.piece_verdict.specs.Hidden.{KnowsHidden}
 
 -- where anything is marked, each usable satellite is visible or hidden throughout
@@ -36,6 +37,7 @@ pub record KnowsLists (alert : Alert) (c : Case) (marks : List Bool) (first last
   pub pass : ListsPass (shift_of alert) (rows_over c first last) (factor_for alert c (length (rows_over c first last) - 1)) marks
 
 pub record Knows (alert : Alert) (c : Case) (known : Known) (first last : ℤ) : Type 0 where
+  pub here : KnowsHere c known.here first
   pub hidden : KnowsHidden c known.hidden.places first last
   pub slopes : KnowsSlopes alert c known.slopes.places first last
   pub lists : KnowsLists alert c known.lists.places first last

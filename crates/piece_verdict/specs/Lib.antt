@@ -8,3 +8,5 @@ pub mod Alerts
 pub mod Hidden
 pub mod Known
 pub mod CaseLaws
+pub mod LegLaws
+pub mod Here

@@ -101,4 +101,14 @@ impl Case {
             Err(_) => Err(OutOfMemory),
         }
     }
+
+    /// How many positions of satellites were worked out so far, modulo 2^64: the work of all judgements. Each satellite
+    /// counts its own in a cell, of which no clause can speak.
+    pub fn positions(&self) -> u64 {
+        let mut sum: u64 = 0;
+        for constellation in self.constellations.as_slice() {
+            sum = sum.wrapping_add(constellation.positions());
+        }
+        sum
+    }
 }

@@ -42,6 +42,15 @@ impl Constellation {
     {
         self.satellites.as_slice()
     }
+
+    /// How many of their positions were worked out, modulo 2^64.
+    pub(crate) fn positions(&self) -> u64 {
+        let mut sum: u64 = 0;
+        for satellite in self.satellites() {
+            sum = sum.wrapping_add(satellite.positions());
+        }
+        sum
+    }
 }
 
 /// The constellations of some almanacs, in their order.

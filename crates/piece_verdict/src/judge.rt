@@ -16,7 +16,7 @@ use crate::case::Case;
 use crate::found::Found;
 use crate::known::Known;
 use crate::seen::Seen;
-use crate::slopes::{given, test};
+use crate::slopes::test;
 use raim_model::{Cmp, OutOfMemory, Piece, Verdict, Why};
 use std::alloc::Global;
 use std::sync::ledger::Ledger;
@@ -60,16 +60,18 @@ impl Case {
         ensures known { Knows alert self.now known.new first last }
     {
         seen.clear();
-        match self.looked(first, last, &mut known.hidden, seen) {
+        let here = self.here(first, last, known.here);
+        known.here = Some(here);
+        match self.looked(here, first, last, &mut known.hidden, seen) {
             Found::Few => Verdict::Unavailable(Why::Few),
             Found::Straddle(prn) => Verdict::Undecided(Cmp::Mask(prn)),
-            Found::Rows => given(test(
+            Found::Rows => test(
                 &self.limits,
                 alert,
                 seen.rows.as_slice(),
                 &mut known.slopes,
                 &mut known.lists,
-            )),
+            ),
         }
     }
 }

@@ -7,6 +7,7 @@ mod constellation;
 mod cuts;
 mod factor;
 mod found;
+mod here;
 mod judge;
 mod known;
 mod legs;

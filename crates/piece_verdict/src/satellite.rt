@@ -9,6 +9,7 @@ use crate::usable::usable;
 use almanac_orbit::{Orbit, position, prepare};
 use fix_interval::Iv;
 use raim_model::{AlmRecord, Outage};
+use std::cell::Cell;
 use std::marker::Model;
 
 /// A satellite's record and its orbit. Contracts see it as the record.
@@ -16,6 +17,8 @@ use std::marker::Model;
 pub(crate) struct Satellite {
     rec: AlmRecord,
     orbit: Orbit,
+    /// How often its position was worked out.
+    positions: Cell<u64>,
 }
 
 impl Model for Satellite {
@@ -38,6 +41,7 @@ impl Satellite {
         Satellite {
             rec: *rec,
             orbit: prepare(rec),
+            positions: Cell::new(0),
         }
     }
 
@@ -63,6 +67,12 @@ impl Satellite {
         ensures exact { vector_ends result ≡ position_of self.now first last }
         ensures bound { VectorBelow (vector_ends result) (2 ^ 46) }
     {
+        self.positions.set(self.positions.get().wrapping_add(1));
         position(&self.orbit, first, last)
+    }
+
+    /// How often that was worked out, modulo 2^64.
+    pub(crate) fn positions(&self) -> u64 {
+        self.positions.get()
     }
 }

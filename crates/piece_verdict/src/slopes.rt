@@ -5,7 +5,7 @@ ghost use Rattle.raim_model.specs.Ranges.{IsLimits};
 ghost use Rattle.slope_laws.specs.ShiftSlopes.{slopes_for};
 ghost use Rattle.slope_test.specs.Marks.{SlopesPass, ListsPass};
 ghost use Rattle.slope_test.specs.Named.{named};
-ghost use Rattle.verdict_laws.specs.PieceVerdict.{kappa_over, test_by, verdict_given};
+ghost use Rattle.verdict_laws.specs.PieceVerdict.{kappa_over, test_by};
 ghost use Rattle.piece_verdict.specs.Alerts.{IsAlert, shift_of, limit_for};
 
 use crate::alert::{Alert, limit_mm, shift};
@@ -13,7 +13,6 @@ use crate::factor::kappa;
 use exclusion_subsets::exclude_over_told;
 use geom_inverse::Row;
 use raim_model::{Limits, Verdict};
-use slope_laws::SubsetVerdict;
 use slope_test::{Marks, detect_over_told};
 
 /// How many satellites the test asks for.
@@ -32,7 +31,7 @@ pub(crate) fn test(
     rows: &[Row],
     slopes: &mut Marks,
     lists: &mut Marks,
-) -> SubsetVerdict
+) -> Verdict
     requires limits { IsLimits limits.now }
     requires alert { IsAlert alert }
     requires few { length rows.now ≤ 32 }
@@ -53,17 +52,5 @@ pub(crate) fn test(
     } else {
         let factor = kappa(limits, alert_mm, n);
         detect_over_told(shift, rows, factor, slopes)
-    }
-}
-
-/// The verdict that the test of the rows gives.
-pub(crate) fn given(verdict: SubsetVerdict) -> Verdict
-    ensures { result ≡ verdict_given verdict }
-{
-    match verdict {
-        SubsetVerdict::Pass => Verdict::Available,
-        SubsetVerdict::Fail(why) => Verdict::Unavailable(why),
-        SubsetVerdict::Straddle(comparison) => Verdict::Undecided(comparison),
-        SubsetVerdict::Overflow(prn) => Verdict::Overflow(prn),
     }
 }

@@ -44,7 +44,8 @@ impl Case {
         steps.tick();
         let mut known = Marks::none();
         let mut seen = Seen::new();
-        let found = self.looked(first, last, &mut known, &mut seen);
+        let here = self.here(first, last, None);
+        let found = self.looked(here, first, last, &mut known, &mut seen);
         seen.looks(found)
     }
 

@@ -7,6 +7,7 @@ ghost use Rattle.site_laws.specs.Frames.{IsFrame};
 ghost use Rattle.wgs_position.specs.Frames.{frame_ends};
 ghost use Rattle.case_laws.specs.PieceVerdict.{seen_of};
 ghost use Rattle.case_laws.specs.SightOver.{mask_of, sight_over};
+ghost use Rattle.piece_verdict.specs.Here.{IsHere};
 ghost use Rattle.piece_verdict.specs.Hidden.{KnowsHidden};
 ghost use Rattle.piece_verdict.specs.Looks.{AreLooks};
 ghost use Rattle.piece_verdict.specs.Seen.{looks_with, IsSeen};
@@ -14,42 +15,48 @@ ghost use Rattle.piece_verdict.specs.Views.{seen_from};
 
 use crate::case::Case;
 use crate::found::Found;
-use crate::legs::leg;
+use crate::here::Here;
 use crate::seen::Seen;
 use crate::sights::sights;
 use crate::slopes::needed;
-use almanac_choice::in_force_at;
 use leg_place::place_over;
 use slope_test::Marks;
 use wgs_position::{SiteFrame, frame};
 
 impl Case {
     /// The frame of the receiver over a piece.
-    fn receiver(&self, first: i64, last: i64) -> SiteFrame
+    fn receiver(&self, here: Here, first: i64, last: i64) -> SiteFrame
         requires ordered { first ≤ℤ last }
         requires rule { MayBeJudged self.now first last }
+        requires here { IsHere self.now here first }
         ensures exact { (rec : AlmRecord) → seen_from (frame_ends result) (mask_of self.now.limits) self.now.limits.weights.items first last rec ≡ sight_over self.now rec first last }
         ensures frame { IsFrame (frame_ends result) }
     {
-        let leg = leg(&self.route, first);
-        frame(&place_over(&self.route, leg, first, last))
+        frame(&place_over(&self.route, here.leg, first, last))
     }
 
     /// What the test makes of the satellites that are usable, where some are known to be hidden; those that are found to be
     /// hidden are known then. The rows are kept in `seen`.
-    pub(crate) fn looked(&self, first: i64, last: i64, known: &mut Marks, seen: &mut Seen) -> Found
+    pub(crate) fn looked(
+        &self,
+        here: Here,
+        first: i64,
+        last: i64,
+        known: &mut Marks,
+        seen: &mut Seen,
+    ) -> Found
         requires ordered { first ≤ℤ last }
         requires rule { MayBeJudged self.now first last }
+        requires here { IsHere self.now here first }
         requires known { KnowsHidden self.now known.old.places first last }
         requires none { IsSeen seen.old [] }
         ensures looks { AreLooks (least_count self.now.limits.exclude) (seen_of self.now first last) (looks_with result seen.new) }
         ensures known { KnowsHidden self.now known.new.places first last }
     {
         let needed = needed(&self.limits);
-        let frame = self.receiver(first, last);
-        let place = in_force_at(self.times.as_slice(), first);
+        let frame = self.receiver(here, first, last);
         sights(
-            self.constellations[place].satellites(),
+            self.constellations[here.almanac].satellites(),
             self.outages.as_slice(),
             self.limits.weights.as_slice(),
             &frame,

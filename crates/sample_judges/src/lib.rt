@@ -3,10 +3,12 @@
 
 mod afresh;
 mod alternating;
+mod counted;
 mod island;
 
-pub use afresh::{split_afresh, split_each_afresh};
+pub use afresh::{split_afresh, split_each_afresh, split_told_afresh};
 pub use alternating::Alternating;
+pub use counted::Counted;
 pub use island::Island;
 
 #[cfg(test)]

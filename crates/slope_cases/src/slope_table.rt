@@ -8,7 +8,8 @@ use arrayvec::ArrayVec;
 use exclusion_subsets::exclude_over;
 use fix_interval::{Iv, UNITS_IN_ONE};
 use geom_inverse::Row;
-use slope_laws::{Shift, SubsetVerdict};
+use raim_model::Verdict;
+use slope_laws::Shift;
 use slope_test::detect_over;
 use std::alloc::Global;
 use std::test::Fail;
@@ -125,7 +126,7 @@ fn interval(lo: &str, hi: &str) -> Option<Iv> {
 }
 
 /// What the tests make of a line's rows.
-fn answers(line: &str) -> Option<[SubsetVerdict; 4]> {
+fn answers(line: &str) -> Option<[Verdict; 4]> {
     let mut words = line.split_whitespace();
     let seed = words.next()?.parse::<u64>().ok()?;
     let count = words.next()?.parse::<u8>().ok()?;
@@ -142,7 +143,7 @@ fn answers(line: &str) -> Option<[SubsetVerdict; 4]> {
     ])
 }
 
-fn answers_text(alloc: Global, answers: [SubsetVerdict; 4]) -> Result<String, Fail> {
+fn answers_text(alloc: Global, answers: [Verdict; 4]) -> Result<String, Fail> {
     let [first, second, third, fourth] = answers;
     Ok(format!(in alloc; "{first:?}; {second:?}; {third:?}; {fourth:?}")?)
 }
@@ -166,73 +167,73 @@ fn slopes_are_as_the_table_says(rt: HostRuntime) -> Result<(), Fail> {
 }
 
 const TABLE: &str = "\
-1004 4 0 plain 274877906 274877906 274877906 274877906 : Fail(Few); Fail(Few); Fail(Few); Fail(Few)
-1004 4 3 plain 274877906 274877906 274877906 274877906 : Fail(Few); Fail(Few); Fail(Few); Fail(Few)
-1004 4 100000 plain 274877906 274877906 274877906 274877906 : Fail(Few); Fail(Few); Fail(Few); Fail(Few)
-1005 5 0 plain 274877906 274877906 274877906 274877906 : Pass; Fail(Few); Pass; Fail(Few)
-1005 5 3 plain 274877906 274877906 274877906 274877906 : Pass; Fail(Few); Pass; Fail(Few)
-1005 5 100000 plain 274877906 274877906 274877906 274877906 : Pass; Fail(Few); Pass; Fail(Few)
-1006 6 0 plain 274877906 274877906 274877906 274877906 : Pass; Fail(Slope); Pass; Fail(Slope)
-1006 6 3 plain 274877906 274877906 274877906 274877906 : Pass; Fail(Slope); Pass; Fail(Slope)
-1006 6 100000 plain 274877906 274877906 274877906 274877906 : Pass; Fail(Slope); Pass; Fail(Slope)
-1007 7 0 plain 274877906 274877906 274877906 274877906 : Pass; Pass; Pass; Pass
-1007 7 3 plain 274877906 274877906 274877906 274877906 : Pass; Pass; Pass; Pass
-1007 7 100000 plain 274877906 274877906 274877906 274877906 : Pass; Pass; Pass; Pass
-1012 12 0 plain 274877906 274877906 274877906 274877906 : Pass; Pass; Pass; Pass
-1012 12 3 plain 274877906 274877906 274877906 274877906 : Pass; Pass; Pass; Pass
-1012 12 100000 plain 274877906 274877906 274877906 274877906 : Pass; Pass; Pass; Pass
-1031 31 0 plain 274877906 274877906 274877906 274877906 : Pass; Pass; Pass; Pass
-1031 31 3 plain 274877906 274877906 274877906 274877906 : Pass; Pass; Pass; Pass
-1031 31 100000 plain 274877906 274877906 274877906 274877906 : Pass; Pass; Pass; Pass
-1032 32 0 plain 274877906 274877906 274877906 274877906 : Pass; Pass; Pass; Pass
-1032 32 3 plain 274877906 274877906 274877906 274877906 : Pass; Pass; Pass; Pass
-1032 32 100000 plain 274877906 274877906 274877906 274877906 : Pass; Pass; Pass; Pass
-1 7 2 plain 45812984490 45812984490 30541989660 30541989660 : Pass; Fail(Slope); Pass; Pass
-2 8 2 plain 91625968981 91625968981 61083979320 61083979320 : Pass; Fail(Slope); Pass; Fail(Slope)
-3 9 2 plain 137438953472 137438953472 91625968981 91625968981 : Pass; Fail(Slope); Pass; Fail(Slope)
-4 6 2 plain 183251937962 183251937962 122167958641 122167958641 : Fail(Slope); Fail(Slope); Fail(Slope); Fail(Slope)
-5 7 2 plain 229064922453 229064922453 152709948302 152709948302 : Fail(Slope); Fail(Slope); Fail(Slope); Fail(Slope)
-6 8 2 plain 274877906944 274877906944 183251937962 183251937962 : Fail(Slope); Fail(Slope); Fail(Slope); Fail(Slope)
-7 9 2 plain 320690891434 320690891434 213793927623 213793927623 : Pass; Fail(Slope); Pass; Fail(Slope)
-8 6 2 plain 366503875925 366503875925 244335917283 244335917283 : Fail(Slope); Fail(Slope); Fail(Slope); Fail(Slope)
-11 8 2097152 plain 274877906 824633720832 0 274877906944 : Straddle(Slope(6)); Straddle(Slope(6)); Straddle(Slope(3)); Straddle(Slope(3))
-12 8 4194304 plain 274877906 824633720832 0 274877906944 : Straddle(Slope(2)); Straddle(Slope(2)); Straddle(Slope(2)); Straddle(Slope(2))
-13 8 8388608 plain 274877906 824633720832 0 274877906944 : Straddle(Slope(4)); Straddle(Slope(4)); Straddle(Slope(2)); Straddle(Slope(2))
-14 8 16777216 plain 274877906 824633720832 0 274877906944 : Straddle(Slope(1)); Straddle(Slope(1)); Straddle(Slope(7)); Straddle(Slope(7))
-15 8 33554432 plain 274877906 824633720832 0 274877906944 : Straddle(Slope(1)); Straddle(Slope(1)); Straddle(Slope(5)); Straddle(Slope(5))
-16 8 67108864 plain 274877906 824633720832 0 274877906944 : Straddle(Slope(1)); Straddle(Slope(1)); Straddle(Slope(2)); Straddle(Slope(2))
-17 8 134217728 plain 274877906 824633720832 0 274877906944 : Straddle(Slope(3)); Straddle(Slope(3)); Straddle(Slope(6)); Straddle(Slope(6))
-18 8 268435456 plain 274877906 824633720832 0 274877906944 : Straddle(Slope(1)); Straddle(Slope(1)); Straddle(Slope(1)); Straddle(Slope(1))
-21 8 5 weighed 13089424140 13089424140 6871947673 6871947673 : Fail(Slope); Fail(Slope); Fail(Slope); Fail(Slope)
-22 9 5 weighed 12494450315 12494450315 6871947673 6871947673 : Fail(Slope); Fail(Slope); Pass; Fail(Singular)
-23 10 5 weighed 11951213345 11951213345 6871947673 6871947673 : Pass; Pass; Pass; Pass
-24 11 5 weighed 11453246122 11453246122 6871947673 6871947673 : Pass; Pass; Fail(Slope); Fail(Slope)
-25 7 5 weighed 10995116277 10995116277 6871947673 6871947673 : Fail(Slope); Fail(Slope); Fail(Slope); Fail(Slope)
-26 8 5 weighed 10572227190 10572227190 6871947673 6871947673 : Pass; Pass; Pass; Pass
-31 9 1000 level 274877906944 274877906944 274877906944 274877906944 : Fail(Singular); Fail(Singular); Fail(Singular); Fail(Singular)
-32 9 0 level 274877906944 274877906944 274877906944 274877906944 : Fail(Singular); Fail(Singular); Fail(Singular); Fail(Singular)
-100 7 4096 near 10 10 10 10 : Fail(Singular); Fail(Singular); Fail(Singular); Fail(Singular)
-100 7 134217728 near 10 10 10 10 : Straddle(Det); Straddle(Det); Straddle(Det); Straddle(Det)
-101 7 4096 near 10 10 10 10 : Pass; Fail(Singular); Pass; Fail(Singular)
-104 7 1048576 near 10 10 10 10 : Straddle(Det); Straddle(Det); Straddle(Det); Straddle(Det)
-107 7 1048576 near 10 10 10 10 : Pass; Straddle(SlopeWithout(1, 5)); Pass; Straddle(SlopeWithout(1, 5))
-113 7 4096 near 10 10 10 10 : Pass; Pass; Pass; Pass
-144 7 1048576 near 10 10 10 10 : Pass; Straddle(DetWithout(1)); Pass; Straddle(DetWithout(1))
-162 7 1048576 near 10 10 10 10 : Pass; Straddle(DetWithout(3)); Pass; Straddle(DetWithout(3))
+1004 4 0 plain 274877906 274877906 274877906 274877906 : Unavailable(Few); Unavailable(Few); Unavailable(Few); Unavailable(Few)
+1004 4 3 plain 274877906 274877906 274877906 274877906 : Unavailable(Few); Unavailable(Few); Unavailable(Few); Unavailable(Few)
+1004 4 100000 plain 274877906 274877906 274877906 274877906 : Unavailable(Few); Unavailable(Few); Unavailable(Few); Unavailable(Few)
+1005 5 0 plain 274877906 274877906 274877906 274877906 : Available; Unavailable(Few); Available; Unavailable(Few)
+1005 5 3 plain 274877906 274877906 274877906 274877906 : Available; Unavailable(Few); Available; Unavailable(Few)
+1005 5 100000 plain 274877906 274877906 274877906 274877906 : Available; Unavailable(Few); Available; Unavailable(Few)
+1006 6 0 plain 274877906 274877906 274877906 274877906 : Available; Unavailable(Slope); Available; Unavailable(Slope)
+1006 6 3 plain 274877906 274877906 274877906 274877906 : Available; Unavailable(Slope); Available; Unavailable(Slope)
+1006 6 100000 plain 274877906 274877906 274877906 274877906 : Available; Unavailable(Slope); Available; Unavailable(Slope)
+1007 7 0 plain 274877906 274877906 274877906 274877906 : Available; Available; Available; Available
+1007 7 3 plain 274877906 274877906 274877906 274877906 : Available; Available; Available; Available
+1007 7 100000 plain 274877906 274877906 274877906 274877906 : Available; Available; Available; Available
+1012 12 0 plain 274877906 274877906 274877906 274877906 : Available; Available; Available; Available
+1012 12 3 plain 274877906 274877906 274877906 274877906 : Available; Available; Available; Available
+1012 12 100000 plain 274877906 274877906 274877906 274877906 : Available; Available; Available; Available
+1031 31 0 plain 274877906 274877906 274877906 274877906 : Available; Available; Available; Available
+1031 31 3 plain 274877906 274877906 274877906 274877906 : Available; Available; Available; Available
+1031 31 100000 plain 274877906 274877906 274877906 274877906 : Available; Available; Available; Available
+1032 32 0 plain 274877906 274877906 274877906 274877906 : Available; Available; Available; Available
+1032 32 3 plain 274877906 274877906 274877906 274877906 : Available; Available; Available; Available
+1032 32 100000 plain 274877906 274877906 274877906 274877906 : Available; Available; Available; Available
+1 7 2 plain 45812984490 45812984490 30541989660 30541989660 : Available; Unavailable(Slope); Available; Available
+2 8 2 plain 91625968981 91625968981 61083979320 61083979320 : Available; Unavailable(Slope); Available; Unavailable(Slope)
+3 9 2 plain 137438953472 137438953472 91625968981 91625968981 : Available; Unavailable(Slope); Available; Unavailable(Slope)
+4 6 2 plain 183251937962 183251937962 122167958641 122167958641 : Unavailable(Slope); Unavailable(Slope); Unavailable(Slope); Unavailable(Slope)
+5 7 2 plain 229064922453 229064922453 152709948302 152709948302 : Unavailable(Slope); Unavailable(Slope); Unavailable(Slope); Unavailable(Slope)
+6 8 2 plain 274877906944 274877906944 183251937962 183251937962 : Unavailable(Slope); Unavailable(Slope); Unavailable(Slope); Unavailable(Slope)
+7 9 2 plain 320690891434 320690891434 213793927623 213793927623 : Available; Unavailable(Slope); Available; Unavailable(Slope)
+8 6 2 plain 366503875925 366503875925 244335917283 244335917283 : Unavailable(Slope); Unavailable(Slope); Unavailable(Slope); Unavailable(Slope)
+11 8 2097152 plain 274877906 824633720832 0 274877906944 : Undecided(Slope(6)); Undecided(Slope(6)); Undecided(Slope(3)); Undecided(Slope(3))
+12 8 4194304 plain 274877906 824633720832 0 274877906944 : Undecided(Slope(2)); Undecided(Slope(2)); Undecided(Slope(2)); Undecided(Slope(2))
+13 8 8388608 plain 274877906 824633720832 0 274877906944 : Undecided(Slope(4)); Undecided(Slope(4)); Undecided(Slope(2)); Undecided(Slope(2))
+14 8 16777216 plain 274877906 824633720832 0 274877906944 : Undecided(Slope(1)); Undecided(Slope(1)); Undecided(Slope(7)); Undecided(Slope(7))
+15 8 33554432 plain 274877906 824633720832 0 274877906944 : Undecided(Slope(1)); Undecided(Slope(1)); Undecided(Slope(5)); Undecided(Slope(5))
+16 8 67108864 plain 274877906 824633720832 0 274877906944 : Undecided(Slope(1)); Undecided(Slope(1)); Undecided(Slope(2)); Undecided(Slope(2))
+17 8 134217728 plain 274877906 824633720832 0 274877906944 : Undecided(Slope(3)); Undecided(Slope(3)); Undecided(Slope(6)); Undecided(Slope(6))
+18 8 268435456 plain 274877906 824633720832 0 274877906944 : Undecided(Slope(1)); Undecided(Slope(1)); Undecided(Slope(1)); Undecided(Slope(1))
+21 8 5 weighed 13089424140 13089424140 6871947673 6871947673 : Unavailable(Slope); Unavailable(Slope); Unavailable(Slope); Unavailable(Slope)
+22 9 5 weighed 12494450315 12494450315 6871947673 6871947673 : Unavailable(Slope); Unavailable(Slope); Available; Unavailable(Singular)
+23 10 5 weighed 11951213345 11951213345 6871947673 6871947673 : Available; Available; Available; Available
+24 11 5 weighed 11453246122 11453246122 6871947673 6871947673 : Available; Available; Unavailable(Slope); Unavailable(Slope)
+25 7 5 weighed 10995116277 10995116277 6871947673 6871947673 : Unavailable(Slope); Unavailable(Slope); Unavailable(Slope); Unavailable(Slope)
+26 8 5 weighed 10572227190 10572227190 6871947673 6871947673 : Available; Available; Available; Available
+31 9 1000 level 274877906944 274877906944 274877906944 274877906944 : Unavailable(Singular); Unavailable(Singular); Unavailable(Singular); Unavailable(Singular)
+32 9 0 level 274877906944 274877906944 274877906944 274877906944 : Unavailable(Singular); Unavailable(Singular); Unavailable(Singular); Unavailable(Singular)
+100 7 4096 near 10 10 10 10 : Unavailable(Singular); Unavailable(Singular); Unavailable(Singular); Unavailable(Singular)
+100 7 134217728 near 10 10 10 10 : Undecided(Det); Undecided(Det); Undecided(Det); Undecided(Det)
+101 7 4096 near 10 10 10 10 : Available; Unavailable(Singular); Available; Unavailable(Singular)
+104 7 1048576 near 10 10 10 10 : Undecided(Det); Undecided(Det); Undecided(Det); Undecided(Det)
+107 7 1048576 near 10 10 10 10 : Available; Undecided(SlopeWithout(1, 5)); Available; Undecided(SlopeWithout(1, 5))
+113 7 4096 near 10 10 10 10 : Available; Available; Available; Available
+144 7 1048576 near 10 10 10 10 : Available; Undecided(DetWithout(1)); Available; Undecided(DetWithout(1))
+162 7 1048576 near 10 10 10 10 : Available; Undecided(DetWithout(3)); Available; Undecided(DetWithout(3))
 61 8 3 plain 594225010104096795420431 594225010104096795420431 274877906 274877906 : Overflow(8); Overflow(8); Overflow(1); Overflow(1)
-62 8 3 plain 126718525658857821030384 126718525658857821030384 274877906 274877906 : Overflow(3); Overflow(3); Fail(Slope); Fail(Slope)
-65 8 3 plain 171918870550938207054291 171918870550938207054291 274877906 274877906 : Overflow(6); Overflow(6); Fail(Slope); Fail(Slope)
-66 8 3 plain 441798977257127081506406 441798977257127081506406 274877906 274877906 : Overflow(7); Overflow(7); Fail(Slope); Fail(Slope)
-67 8 3 plain 2357912973224039436739771 2357912973224039436739771 274877906 274877906 : Overflow(4); Overflow(4); Fail(Slope); Fail(Slope)
-68 8 3 plain 1098592266156454394634985 1098592266156454394634985 274877906 274877906 : Overflow(1); Overflow(1); Fail(Slope); Fail(Slope)
+62 8 3 plain 126718525658857821030384 126718525658857821030384 274877906 274877906 : Overflow(3); Overflow(3); Unavailable(Slope); Unavailable(Slope)
+65 8 3 plain 171918870550938207054291 171918870550938207054291 274877906 274877906 : Overflow(6); Overflow(6); Unavailable(Slope); Unavailable(Slope)
+66 8 3 plain 441798977257127081506406 441798977257127081506406 274877906 274877906 : Overflow(7); Overflow(7); Unavailable(Slope); Unavailable(Slope)
+67 8 3 plain 2357912973224039436739771 2357912973224039436739771 274877906 274877906 : Overflow(4); Overflow(4); Unavailable(Slope); Unavailable(Slope)
+68 8 3 plain 1098592266156454394634985 1098592266156454394634985 274877906 274877906 : Overflow(1); Overflow(1); Unavailable(Slope); Unavailable(Slope)
 44 8 3 plain 9671406556917033397649408 9671406556917033397649408 274877906 274877906 : Overflow(1); Overflow(1); Overflow(1); Overflow(1)
-48 6 3 plain 37778931862957161709568 37778931862957161709568 274877906 274877906 : Fail(Slope); Fail(Slope); Fail(Slope); Fail(Slope)
-51 7 3 plain 0 137438953472 0 4835703278458516698824704 : Straddle(Slope(5)); Straddle(Slope(5)); Straddle(Slope(5)); Straddle(Slope(5))
-52 7 3 plain 0 68719476736 0 19342813113834066795298816 : Pass; Overflow(2); Pass; Overflow(3)
-53 7 3 plain 0 34359738368 0 77371252455336267181195264 : Pass; Overflow(2); Pass; Overflow(2)
-54 7 3 plain 0 17179869184 0 75557863725914323419136 : Pass; Straddle(SlopeWithout(1, 2)); Pass; Straddle(SlopeWithout(1, 2))
-55 7 3 plain 0 274877906944 0 302231454903657293676544 : Straddle(Slope(4)); Straddle(Slope(4)); Straddle(Slope(2)); Straddle(Slope(2))
-56 7 3 plain 0 137438953472 0 1208925819614629174706176 : Straddle(Slope(1)); Straddle(Slope(1)); Straddle(Slope(1)); Straddle(Slope(1))
-57 7 3 plain 0 68719476736 0 4835703278458516698824704 : Straddle(Slope(3)); Straddle(Slope(3)); Straddle(Slope(3)); Straddle(Slope(3))
-58 7 3 plain 0 34359738368 0 19342813113834066795298816 : Pass; Overflow(2); Pass; Straddle(SlopeWithout(1, 2))
+48 6 3 plain 37778931862957161709568 37778931862957161709568 274877906 274877906 : Unavailable(Slope); Unavailable(Slope); Unavailable(Slope); Unavailable(Slope)
+51 7 3 plain 0 137438953472 0 4835703278458516698824704 : Undecided(Slope(5)); Undecided(Slope(5)); Undecided(Slope(5)); Undecided(Slope(5))
+52 7 3 plain 0 68719476736 0 19342813113834066795298816 : Available; Overflow(2); Available; Overflow(3)
+53 7 3 plain 0 34359738368 0 77371252455336267181195264 : Available; Overflow(2); Available; Overflow(2)
+54 7 3 plain 0 17179869184 0 75557863725914323419136 : Available; Undecided(SlopeWithout(1, 2)); Available; Undecided(SlopeWithout(1, 2))
+55 7 3 plain 0 274877906944 0 302231454903657293676544 : Undecided(Slope(4)); Undecided(Slope(4)); Undecided(Slope(2)); Undecided(Slope(2))
+56 7 3 plain 0 137438953472 0 1208925819614629174706176 : Undecided(Slope(1)); Undecided(Slope(1)); Undecided(Slope(1)); Undecided(Slope(1))
+57 7 3 plain 0 68719476736 0 4835703278458516698824704 : Undecided(Slope(3)); Undecided(Slope(3)); Undecided(Slope(3)); Undecided(Slope(3))
+58 7 3 plain 0 34359738368 0 19342813113834066795298816 : Available; Overflow(2); Available; Undecided(SlopeWithout(1, 2))
 ";

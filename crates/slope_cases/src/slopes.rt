@@ -5,8 +5,8 @@ ghost use Rattle.std.specs.Prelude.{◌^◌, pos, ◌≤ℤ◌};
 use exclusion_subsets::{exclude, exclude_over};
 use fix_interval::Iv;
 use geom_inverse::Row;
-use raim_model::{Cmp, Why};
-use slope_laws::{Shift, SubsetVerdict};
+use raim_model::{Cmp, Verdict, Why};
+use slope_laws::Shift;
 use slope_test::{detect, detect_over};
 
 const HALF: Iv = Iv {
@@ -43,29 +43,29 @@ fn five(weight: Iv) -> [Row; 5]
     [east, west, north, south, up]
 }
 
-fn detect_five(lo: i128, hi: i128) -> SubsetVerdict
+fn detect_five(lo: i128, hi: i128) -> Verdict
     requires { lo ≤ℤ hi }
 {
     detect(&five(Iv::ONE), Iv { lo, hi })
 }
 
-fn exclude_six(less: Iv) -> SubsetVerdict {
+fn exclude_six(less: Iv) -> Verdict {
     exclude(&six(Iv::ONE), Iv::ONE, less)
 }
 
-const SLOPE: SubsetVerdict = SubsetVerdict::Fail(Why::Slope);
+const SLOPE: Verdict = Verdict::Unavailable(Why::Slope);
 
 #[test]
 fn five_satellites(rt: HostRuntime) {
     let one = 274877906944;
-    assert_eq!(rt; detect_five(one, one), SubsetVerdict::Pass);
+    assert_eq!(rt; detect_five(one, one), Verdict::Available);
     assert_eq!(rt; detect_five(one + 1, one + 1), SLOPE);
     assert_eq!(rt;
         detect_five(one - 1, one + 1),
-        SubsetVerdict::Straddle(Cmp::Slope(1))
+        Verdict::Undecided(Cmp::Slope(1))
     );
     let huge = 1267650600228229401496703205376;
-    assert_eq!(rt; detect_five(huge, huge), SubsetVerdict::Overflow(1));
+    assert_eq!(rt; detect_five(huge, huge), Verdict::Overflow(1));
 }
 
 #[test]
@@ -73,30 +73,30 @@ fn four_are_few_and_five_in_one_place_singular(rt: HostRuntime) {
     let [east, west, north, south, up] = five(Iv::ONE);
     assert_eq!(rt;
         detect(&[east, west, north, south], Iv::ONE),
-        SubsetVerdict::Fail(Why::Few)
+        Verdict::Unavailable(Why::Few)
     );
     assert_eq!(rt;
         detect(&[up, up, up, up, up], Iv::ONE),
-        SubsetVerdict::Fail(Why::Singular)
+        Verdict::Unavailable(Why::Singular)
     );
     assert_eq!(rt;
         detect(&[up, up, up, up, up], Iv::ZERO),
-        SubsetVerdict::Fail(Why::Singular)
+        Verdict::Unavailable(Why::Singular)
     );
 }
 
 #[test]
 fn six_satellites_and_one_excluded(rt: HostRuntime) {
-    assert_eq!(rt; detect(&six(Iv::ONE), Iv::ONE), SubsetVerdict::Pass);
+    assert_eq!(rt; detect(&six(Iv::ONE), Iv::ONE), Verdict::Available);
     assert_eq!(rt; exclude_six(Iv::ONE), SLOPE);
-    assert_eq!(rt; exclude_six(Iv::ZERO), SubsetVerdict::Pass);
+    assert_eq!(rt; exclude_six(Iv::ZERO), Verdict::Available);
     assert_eq!(rt;
         exclude_six(Iv { lo: 0, hi: 1 }),
-        SubsetVerdict::Straddle(Cmp::SlopeWithout(1, 2))
+        Verdict::Undecided(Cmp::SlopeWithout(1, 2))
     );
     assert_eq!(rt;
         exclude(&five(Iv::ONE), Iv::ONE, Iv::ONE),
-        SubsetVerdict::Fail(Why::Few)
+        Verdict::Unavailable(Why::Few)
     );
 }
 
@@ -104,7 +104,7 @@ fn six_satellites_and_one_excluded(rt: HostRuntime) {
 fn weights_of_a_half(rt: HostRuntime) {
     let rows = five(HALF);
     let quarter = 68719476736;
-    assert_eq!(rt; detect(&rows, Iv::point(quarter)), SubsetVerdict::Pass);
+    assert_eq!(rt; detect(&rows, Iv::point(quarter)), Verdict::Available);
     assert_eq!(rt; detect(&rows, Iv::point(quarter + 1)), SLOPE);
 }
 
@@ -114,7 +114,7 @@ fn upwards(rt: HostRuntime) {
     // four thirds
     assert_eq!(rt;
         detect_over(Shift::Vertical, &six, Iv::point(366503875925)),
-        SubsetVerdict::Pass
+        Verdict::Available
     );
     assert_eq!(rt;
         detect_over(Shift::Vertical, &six, Iv::point(366503875926)),
@@ -124,10 +124,10 @@ fn upwards(rt: HostRuntime) {
     assert_eq!(rt; detect_over(Shift::Vertical, &five, Iv::point(1)), SLOPE);
     assert_eq!(rt;
         detect_over(Shift::Vertical, &five, Iv::ZERO),
-        SubsetVerdict::Pass
+        Verdict::Available
     );
     assert_eq!(rt;
         exclude_over(Shift::Vertical, &six, Iv::ONE, Iv::ZERO),
-        SubsetVerdict::Pass
+        Verdict::Available
     );
 }

@@ -5,8 +5,7 @@ ghost use Rattle.std.specs.Prelude.{◌^◌, pos, ◌≤ℤ◌};
 
 use fix_interval::Iv;
 use geom_inverse::Row;
-use raim_model::{Cmp, Why};
-use slope_laws::SubsetVerdict;
+use raim_model::{Cmp, Verdict, Why};
 use vert_slope::{detect_up, exclude_up};
 
 const HALF: Iv = Iv {
@@ -30,9 +29,9 @@ const THIRD: i128 = 91625968981;
 
 const HUGE: i128 = 1267650600228229401496703205376;
 
-const SLOPE: SubsetVerdict = SubsetVerdict::Fail(Why::Slope);
+const SLOPE: Verdict = Verdict::Unavailable(Why::Slope);
 
-const FEW: SubsetVerdict = SubsetVerdict::Fail(Why::Few);
+const FEW: Verdict = Verdict::Unavailable(Why::Few);
 
 /// One to the east, to the west, to the north and to the south, one up and one down, all of one weight.
 fn six(weight: Iv) -> [Row; 6]
@@ -58,46 +57,34 @@ fn five() -> [Row; 5] {
 #[test]
 fn six_pass_up_to_four_thirds(rt: HostRuntime) {
     let six = six(Iv::ONE);
-    assert_eq!(rt;
-        detect_up(&six, Iv::point(FOUR_THIRDS)),
-        SubsetVerdict::Pass
-    );
+    assert_eq!(rt; detect_up(&six, Iv::point(FOUR_THIRDS)), Verdict::Available);
     assert_eq!(rt; detect_up(&six, Iv::point(FOUR_THIRDS + 1)), SLOPE);
     let between = Iv {
         lo: FOUR_THIRDS,
         hi: FOUR_THIRDS + 1,
     };
-    assert_eq!(rt;
-        detect_up(&six, between),
-        SubsetVerdict::Straddle(Cmp::Slope(5))
-    );
-    assert_eq!(rt;
-        detect_up(&six, Iv::point(HUGE)),
-        SubsetVerdict::Overflow(5)
-    );
+    assert_eq!(rt; detect_up(&six, between), Verdict::Undecided(Cmp::Slope(5)));
+    assert_eq!(rt; detect_up(&six, Iv::point(HUGE)), Verdict::Overflow(5));
 }
 
 #[test]
 fn one_alone_above_passes_no_factor_but_nothing(rt: HostRuntime) {
     let five = five();
     assert_eq!(rt; detect_up(&five, Iv::point(1)), SLOPE);
-    assert_eq!(rt; detect_up(&five, Iv::ZERO), SubsetVerdict::Pass);
-    assert_eq!(rt;
-        detect_up(&five, OPEN),
-        SubsetVerdict::Straddle(Cmp::Slope(5))
-    );
+    assert_eq!(rt; detect_up(&five, Iv::ZERO), Verdict::Available);
+    assert_eq!(rt; detect_up(&five, OPEN), Verdict::Undecided(Cmp::Slope(5)));
     let [east, west, north, south, up] = five;
     assert_eq!(rt; detect_up(&[east, west, north, south], Iv::ONE), FEW);
     assert_eq!(rt;
         detect_up(&[up, up, up, up, up], Iv::ZERO),
-        SubsetVerdict::Fail(Why::Singular)
+        Verdict::Unavailable(Why::Singular)
     );
 }
 
 #[test]
 fn weights_of_a_half(rt: HostRuntime) {
     let six = six(HALF);
-    assert_eq!(rt; detect_up(&six, Iv::point(THIRD)), SubsetVerdict::Pass);
+    assert_eq!(rt; detect_up(&six, Iv::point(THIRD)), Verdict::Available);
     assert_eq!(rt; detect_up(&six, Iv::point(THIRD + 1)), SLOPE);
 }
 
@@ -105,13 +92,9 @@ fn weights_of_a_half(rt: HostRuntime) {
 fn six_without_one(rt: HostRuntime) {
     let six = six(Iv::ONE);
     for (kappa, kappa_less, expected) in [
-        (Iv::ONE, Iv::ZERO, SubsetVerdict::Pass),
+        (Iv::ONE, Iv::ZERO, Verdict::Available),
         (Iv::ONE, Iv::point(1), SLOPE),
-        (
-            Iv::ONE,
-            OPEN,
-            SubsetVerdict::Straddle(Cmp::SlopeWithout(5, 6)),
-        ),
+        (Iv::ONE, OPEN, Verdict::Undecided(Cmp::SlopeWithout(5, 6))),
         (Iv::ONE, Iv::ONE, SLOPE),
         (Iv::point(FOUR_THIRDS + 1), Iv::ZERO, SLOPE),
     ] {

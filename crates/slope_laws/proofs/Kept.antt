@@ -7,8 +7,8 @@ use lib.Signed.{lt_z}
 use Rattle.raim_model.specs.declared.verdict.Why.{Why}
 use Rattle.raim_model.specs.declared.verdict.Why.TheVariants as why
 use Rattle.fix_interval.specs.Ends.{Ends, IsInside}
-use Rattle.slope_laws.specs.declared.subset.SubsetVerdict.{SubsetVerdict}
-use Rattle.slope_laws.specs.declared.subset.SubsetVerdict.TheVariants.{Pass, Fail, Straddle, Overflow}
+use Rattle.raim_model.specs.declared.verdict.Verdict.{Verdict}
+use Rattle.raim_model.specs.declared.verdict.Verdict.TheVariants.{Available, Unavailable, Undecided, Overflow}
 use Rattle.slope_laws.specs.Rows.{NamedRow, NamedInside, NamedRowsInside, Removal, behind, removals}
 use Rattle.slope_laws.specs.declared.outcome.Outcome.{Outcome}
 use Rattle.slope_laws.specs.declared.outcome.Outcome.TheVariants.{Passes, Fails, Straddles, Overflows}
@@ -167,7 +167,7 @@ above z h = grind (arith, ints)
 under : (z : ℤ) → z <ℤ least_units → lt_z z least_units ≡ true
 under z h = grind (arith, ints)
 
-determinant_left : (d e : Ends) (inside wide : SubsetVerdict) → IsInside d e → LeavesVerdict wide inside → LeavesVerdict (of_determinant e wide) (of_determinant d inside)
+determinant_left : (d e : Ends) (inside wide : Verdict) → IsInside d e → LeavesVerdict wide inside → LeavesVerdict (of_determinant e wide) (of_determinant d inside)
 determinant_left d e inside wide i l = elim (below_least e.hi) [
   | inl p ↦ let high = i.high in let lt = p.1 in rw (p.0, under d.hi (omega (arith, ints))) refl
   | inr q ↦ elim (below_least e.lo) [
@@ -178,7 +178,7 @@ determinant_left d e inside wide i l = elim (below_least e.hi) [
   ]
 ]
 
-pub if_left : (b : Bool) (w : Why) (inside wide : SubsetVerdict) → LeavesVerdict wide inside → LeavesVerdict (if b then Fail w else wide) (if b then Fail w else inside)
+pub if_left : (b : Bool) (w : Why) (inside wide : Verdict) → LeavesVerdict wide inside → LeavesVerdict (if b then Unavailable w else wide) (if b then Unavailable w else inside)
 if_left true w inside wide l = refl
 if_left false w inside wide l = l
 
@@ -194,19 +194,19 @@ detect_left test holds rows wide kappa wide_kappa i k =
     (λ x y r s. holds.outcome_isotone rows wide x y kappa wide_kappa i r s k)
     (removals rows) (removals wide) (removals_inside rows wide i)))))
 
-unless_left : (wide inside wide_next next : SubsetVerdict) → LeavesVerdict wide inside → LeavesVerdict wide_next next → LeavesVerdict (unless_passes wide wide_next) (unless_passes inside next)
-unless_left Pass inside wide_next next l m = rw l m
-unless_left (Fail w) inside wide_next next l m = rw l refl
-unless_left (Straddle c) inside wide_next next l m = tt
+unless_left : (wide inside wide_next next : Verdict) → LeavesVerdict wide inside → LeavesVerdict wide_next next → LeavesVerdict (unless_passes wide wide_next) (unless_passes inside next)
+unless_left Available inside wide_next next l m = rw l m
+unless_left (Unavailable w) inside wide_next next l m = rw l refl
+unless_left (Undecided c) inside wide_next next l m = tt
 unless_left (Overflow p) inside wide_next next l m = tt
 
-named_left : (p q : ℕ) (wide inside : SubsetVerdict) → LeavesVerdict wide inside → LeavesVerdict (named_without p wide) (named_without q inside)
-named_left p q Pass inside l = rw l refl
-named_left p q (Fail w) inside l = rw l refl
-named_left p q (Straddle c) inside l = tt
+named_left : (p q : ℕ) (wide inside : Verdict) → LeavesVerdict wide inside → LeavesVerdict (named_without p wide) (named_without q inside)
+named_left p q Available inside l = rw l refl
+named_left p q (Unavailable w) inside l = rw l refl
+named_left p q (Undecided c) inside l = tt
 named_left p q (Overflow r) inside l = tt
 
-open_left : (wide inside : List NamedRow → SubsetVerdict) → ((rows wides : List NamedRow) → NamedRowsInside rows wides → LeavesVerdict (wide wides) (inside rows))
+open_left : (wide inside : List NamedRow → Verdict) → ((rows wides : List NamedRow) → NamedRowsInside rows wides → LeavesVerdict (wide wides) (inside rows))
     → (xs ys : List Removal) → RemovalsInside xs ys → LeavesVerdict (first_open wide ys) (first_open inside xs)
 open_left wide inside each [] [] h = refl
 open_left wide inside each (x ∷ xs) (y ∷ ys) h =

@@ -17,8 +17,8 @@ use Rattle.geometry_laws.specs.Shifts.{IsSquare}
 use Rattle.raim_model.specs.PointVerdict.{is_steep, is_some_steep, fault_of, without_one, or_else, first_fault, reason_of}
 use Rattle.fix_interval.specs.Ends.{Ends}
 use Rattle.fix_interval.specs.Lies.{Lies}
-use Rattle.slope_laws.specs.declared.subset.SubsetVerdict.{SubsetVerdict}
-use Rattle.slope_laws.specs.declared.subset.SubsetVerdict.TheVariants.{Pass, Fail, Straddle, Overflow}
+use Rattle.raim_model.specs.declared.verdict.Verdict.{Verdict}
+use Rattle.raim_model.specs.declared.verdict.Verdict.TheVariants.{Available, Unavailable, Undecided, Overflow}
 use Rattle.slope_laws.specs.Rows.{NamedRow, NamedLies, NamedRowsLie, Removal, behind, removals}
 use Rattle.slope_laws.specs.declared.outcome.Outcome.{Outcome}
 use Rattle.slope_laws.specs.declared.outcome.Outcome.TheVariants.{Passes, Fails, Straddles, Overflows}
@@ -122,7 +122,7 @@ above_least_fraction d x l h = ≤ᶠ_trans (subst (λ t. t ≤ᶠ ratio d.lo (2
     least_is : ratio least_units (2 ^ 38) ≡ least_determinant
     least_is = ratio-same least_units (pos 1) (2 ^ 38) 1024 (omega arith) (omega arith) refl
 
-determinant_tells : (shift : SquaredShift) (d : Ends) (slopes : SubsetVerdict) (k : Fraction) (gs : List Row) → Lies d 38 (determinant (normal_matrix gs))
+determinant_tells : (shift : SquaredShift) (d : Ends) (slopes : Verdict) (k : Fraction) (gs : List Row) → Lies d 38 (determinant (normal_matrix gs))
     → (least_determinant ≤ᶠ determinant (normal_matrix gs) → Tells slopes (if is_some_steep shift k (inverse_of (normal_matrix gs)) gs then Some why.Slope else None))
     → Tells (of_determinant d slopes) (fault_of shift k gs)
 unfolding fault_of
@@ -149,16 +149,16 @@ detect_tells shift test holds rows kappa gs k l m n =
     (λ a b d. rw (none_steep shift holds.square f k gs r (removals rows) gs (without_one gs) c (are_removed gs) (passing f (removals rows) a b d)) refl)
     (λ p b. rw (some_steep shift holds.square f k gs r (removals rows) gs (without_one gs) c (are_removed gs) p b) refl)))
 
-unless_tells : (verdict next : SubsetVerdict) (reason later : Option Why) → Tells verdict reason → Tells next later → Tells (unless_passes verdict next) (or_else reason later)
-unless_tells Pass next reason later t u = rw t u
-unless_tells (Fail w) next reason later t u = rw t refl
-unless_tells (Straddle c) next reason later t u = tt
+unless_tells : (verdict next : Verdict) (reason later : Option Why) → Tells verdict reason → Tells next later → Tells (unless_passes verdict next) (or_else reason later)
+unless_tells Available next reason later t u = rw t u
+unless_tells (Unavailable w) next reason later t u = rw t refl
+unless_tells (Undecided c) next reason later t u = tt
 unless_tells (Overflow p) next reason later t u = tt
 
-named_tells : (prn : ℕ) (verdict : SubsetVerdict) (reason : Option Why) → Tells verdict reason → Tells (named_without prn verdict) reason
-named_tells prn Pass reason t = t
-named_tells prn (Fail w) reason t = t
-named_tells prn (Straddle c) reason t = tt
+named_tells : (prn : ℕ) (verdict : Verdict) (reason : Option Why) → Tells verdict reason → Tells (named_without prn verdict) reason
+named_tells prn Available reason t = t
+named_tells prn (Unavailable w) reason t = t
+named_tells prn (Undecided c) reason t = tt
 named_tells prn (Overflow p) reason t = tt
 
 -- how many rows each list has
@@ -176,7 +176,7 @@ rests_have (r ∷ []) n e = (omega arith, tt)
 rests_have (r ∷ s ∷ rs) zero e = absurd (omega arith)
 rests_have (r ∷ s ∷ rs) (suc m) e = (omega arith, behind_have r m (removals (s ∷ rs)) (rests_have (s ∷ rs) m (omega arith)))
 
-open_tells : (shift : SquaredShift) (detected : List NamedRow → SubsetVerdict) (k : Fraction) (n : ℕ) → ((rest : List NamedRow) (hs : List Row) → NamedRowsLie rest hs → length rest ≡ n → Tells (detected rest) (fault_of shift k hs))
+open_tells : (shift : SquaredShift) (detected : List NamedRow → Verdict) (k : Fraction) (n : ℕ) → ((rest : List NamedRow) (hs : List Row) → NamedRowsLie rest hs → length rest ≡ n → Tells (detected rest) (fault_of shift k hs))
     → (xs : List Removal) (gs : List Row) (hss : List (List Row)) → RemovalsLie xs gs hss → RestsHave n xs → Tells (first_open detected xs) (first_fault shift k hss)
 open_tells shift detected k n each [] [] [] h s = refl
 open_tells shift detected k n each (x ∷ xs) (g ∷ gs) (hs ∷ hss) h s =
@@ -191,7 +191,7 @@ or_else-none : (reason : Option Why) → or_else reason None ≡ reason
 or_else-none None = refl
 or_else-none (Some why) = refl
 
-detect_few : (test : SlopeTest) (rows : List NamedRow) (kappa : Ends) → length rows < 5 → detect_by test rows kappa ≡ Fail why.Few
+detect_few : (test : SlopeTest) (rows : List NamedRow) (kappa : Ends) → length rows < 5 → detect_by test rows kappa ≡ Unavailable why.Few
 unfolding detect_by
 detect_few test rows kappa p = rw (lt-ltb (length rows) 5 p) refl
 
@@ -206,7 +206,7 @@ detect_reason shift test holds rows kappa gs k k_less l m =
       | inr p ↦ rw (le-ltb (length gs) 5 (omega arith), or_else-none (fault_of shift k gs)) (detect_tells shift test holds rows kappa gs k l m p)
     ]
 
-exclude_few : (test : SlopeTest) (rows : List NamedRow) (kappa kappa_less : Ends) → length rows < 6 → exclude_by test rows kappa kappa_less ≡ Fail why.Few
+exclude_few : (test : SlopeTest) (rows : List NamedRow) (kappa kappa_less : Ends) → length rows < 6 → exclude_by test rows kappa kappa_less ≡ Unavailable why.Few
 unfolding exclude_by
 exclude_few test rows kappa kappa_less p = rw (lt-ltb (length rows) 6 p) refl
 

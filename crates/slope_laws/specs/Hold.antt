@@ -2,8 +2,8 @@
 use Rattle.std.specs.Prelude.{◌≡◌, ◌≢◌, List, Some, None}
 use Rattle.std.specs.declared.option.Option.{Option}
 use Rattle.raim_model.specs.declared.verdict.Why.{Why}
-use Rattle.slope_laws.specs.declared.subset.SubsetVerdict.{SubsetVerdict}
-use Rattle.slope_laws.specs.declared.subset.SubsetVerdict.TheVariants.{Pass, Fail, Straddle, Overflow}
+use Rattle.raim_model.specs.declared.verdict.Verdict.{Verdict}
+use Rattle.raim_model.specs.declared.verdict.Verdict.TheVariants.{Available, Unavailable, Undecided, Overflow}
 use Rattle.fractions.specs.Fraction.{Fraction, ◌*ᶠ◌, ◌≤ᶠ◌, ◌<ᶠ◌}
 use Rattle.raim_model.specs.Geometry.{Row, SquaredShift, normal_matrix, determinant}
 use Rattle.geometry_laws.specs.Minors.{adjugate}
@@ -30,17 +30,17 @@ LeavesOutcome Straddles inside = inside ≢ Overflows
 LeavesOutcome Overflows inside = Unit {0}
 
 -- what the verdict on wider rows leaves to that on rows inside: one that is decided is theirs
-abbrev pub LeavesVerdict : (wide inside : SubsetVerdict) → Type 0
-LeavesVerdict Pass inside = inside ≡ Pass
-LeavesVerdict (Fail why) inside = inside ≡ Fail why
-LeavesVerdict (Straddle comparison) inside = Unit {0}
+abbrev pub LeavesVerdict : (wide inside : Verdict) → Type 0
+LeavesVerdict Available inside = inside ≡ Available
+LeavesVerdict (Unavailable why) inside = inside ≡ Unavailable why
+LeavesVerdict (Undecided comparison) inside = Unit {0}
 LeavesVerdict (Overflow prn) inside = Unit {0}
 
 -- what a verdict on rows says of why the model's rows inside them do not serve
-abbrev pub Tells : SubsetVerdict → (reason : Option Why) → Type 0
-Tells Pass reason = reason ≡ None
-Tells (Fail why) reason = reason ≡ Some why
-Tells (Straddle comparison) reason = Unit {0}
+abbrev pub Tells : Verdict → (reason : Option Why) → Type 0
+Tells Available reason = reason ≡ None
+Tells (Unavailable why) reason = reason ≡ Some why
+Tells (Undecided comparison) reason = Unit {0}
 Tells (Overflow prn) reason = Unit {0}
 
 -- a test of the slopes of a squared shift encloses, and is isotone

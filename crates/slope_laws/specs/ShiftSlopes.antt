@@ -15,7 +15,7 @@ use Rattle.slope_laws.specs.declared.outcome.Outcome.{Outcome}
 use Rattle.slope_laws.specs.declared.outcome.Outcome.TheVariants.{Passes, Fails, Straddles, Overflows}
 use Rattle.slope_laws.specs.declared.shift.Shift.{Shift}
 use Rattle.slope_laws.specs.declared.shift.Shift.TheVariants.{Horizontal, Vertical}
-use Rattle.slope_laws.specs.declared.subset.SubsetVerdict.{SubsetVerdict}
+use Rattle.raim_model.specs.declared.verdict.Verdict.{Verdict}
 use Rattle.slope_laws.specs.Rows.{NamedRow}
 use Rattle.slope_laws.specs.Slopes.{SlopeTest, detect_by}
 use Rattle.slope_laws.specs.Subsets.{exclude_by}
@@ -56,9 +56,9 @@ slopes_for shift = record {
 }
 
 -- fault detection, of the rows in rising PRN
-abbrev pub detect_of : Shift → List NamedRow → (kappa : Ends) → SubsetVerdict
+abbrev pub detect_of : Shift → List NamedRow → (kappa : Ends) → Verdict
 detect_of shift rows kappa = detect_by (slopes_for shift) rows kappa
 
 -- fault exclusion: kappa is the factor for all rows, and kappa_less that for one row fewer
-abbrev pub exclude_of : Shift → List NamedRow → (kappa kappa_less : Ends) → SubsetVerdict
+abbrev pub exclude_of : Shift → List NamedRow → (kappa kappa_less : Ends) → Verdict
 exclude_of shift rows kappa kappa_less = exclude_by (slopes_for shift) rows kappa kappa_less

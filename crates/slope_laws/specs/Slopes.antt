@@ -8,8 +8,8 @@ use Rattle.raim_model.specs.declared.verdict.Cmp.TheVariants as cmp
 use Rattle.fix_interval.specs.Ends.{Ends}
 use Rattle.slope_laws.specs.declared.outcome.Outcome.{Outcome}
 use Rattle.slope_laws.specs.declared.outcome.Outcome.TheVariants.{Fails, Straddles, Overflows}
-use Rattle.slope_laws.specs.declared.subset.SubsetVerdict.{SubsetVerdict}
-use Rattle.slope_laws.specs.declared.subset.SubsetVerdict.TheVariants.{Pass, Fail, Straddle, Overflow}
+use Rattle.raim_model.specs.declared.verdict.Verdict.{Verdict}
+use Rattle.raim_model.specs.declared.verdict.Verdict.TheVariants.{Available, Unavailable, Undecided, Overflow}
 use Rattle.slope_laws.specs.Rows.{NamedRow, Removal, removals}
 
 -- the determinant of a list of rows at scale 38, and how the slope of one of its rows compares under a factor
@@ -35,14 +35,14 @@ first_such is outcome [] = None
 first_such is outcome (x ∷ xs) = if is (outcome x) then Some x.row.prn else first_such is outcome xs
 
 -- what the first row that overflows, the first that fails and the first that straddles make of the list
-abbrev pub of_slopes : (overflows fails straddles : Option ℕ) → SubsetVerdict
+abbrev pub of_slopes : (overflows fails straddles : Option ℕ) → Verdict
 of_slopes (Some prn) fails straddles = Overflow prn
-of_slopes None (Some prn) straddles = Fail why.Slope
-of_slopes None None (Some prn) = Straddle (cmp.Slope prn)
-of_slopes None None None = Pass
+of_slopes None (Some prn) straddles = Unavailable why.Slope
+of_slopes None None (Some prn) = Undecided (cmp.Slope prn)
+of_slopes None None None = Available
 
 -- all slopes of a list
-abbrev pub slopes_of : (Removal → Outcome) → List Removal → SubsetVerdict
+abbrev pub slopes_of : (Removal → Outcome) → List Removal → Verdict
 slopes_of outcome xs = of_slopes (first_such is_overflows outcome xs) (first_such is_fails outcome xs) (first_such is_straddles outcome xs)
 
 -- the least determinant of a geometry that counts as regular, 2^-10 at scale 38
@@ -50,11 +50,11 @@ abbrev pub least_units : ℤ
 least_units = pos (2 ^ 28)
 
 -- what a determinant that may be too small makes of the list, and else the slopes
-abbrev pub of_determinant : Ends → SubsetVerdict → SubsetVerdict
-of_determinant d slopes = if lt_z d.hi least_units then Fail why.Singular else if lt_z d.lo least_units then Straddle cmp.Det else slopes
+abbrev pub of_determinant : Ends → Verdict → Verdict
+of_determinant d slopes = if lt_z d.hi least_units then Unavailable why.Singular else if lt_z d.lo least_units then Undecided cmp.Det else slopes
 
 -- the test of a list of rows, in rising PRN, for fault detection under the factor kappa
-unfoldable pub detect_by : SlopeTest → List NamedRow → (kappa : Ends) → SubsetVerdict
+unfoldable pub detect_by : SlopeTest → List NamedRow → (kappa : Ends) → Verdict
 detect_by test rows kappa =
-    if nat_lt (length rows) 5 then Fail why.Few
+    if nat_lt (length rows) 5 then Unavailable why.Few
     else of_determinant (test.determinant rows) (slopes_of (λ x. test.outcome rows x kappa) (removals rows))

@@ -6,7 +6,7 @@ ghost use Rattle.raim_model.specs.Geometry.{Row, SquaredShift};
 ghost use Rattle.raim_model.specs.PointVerdict.{reason_of};
 ghost use Rattle.fix_interval.specs.Ends.{Ends, IsInside};
 ghost use Rattle.fix_interval.specs.Lies.{Lies};
-ghost use Rattle.slope_laws.specs.declared.subset.SubsetVerdict.TheVariants.{Fail};
+ghost use Rattle.raim_model.specs.declared.verdict.Verdict.TheVariants.{Unavailable};
 ghost use Rattle.slope_laws.specs.declared.shift.Shift.{Shift};
 ghost use Rattle.slope_laws.specs.Rows.{NamedRow, NamedRowsLie, NamedRowsInside};
 ghost use Rattle.slope_laws.specs.Slopes.{SlopeTest, detect_by};
@@ -38,6 +38,6 @@ pub fn decided_tests_stay()
 
 /// A test answers Few exactly where there are fewer than five rows, and for exclusion fewer than six.
 pub fn few_rows_are_few()
-    ensures detect { (test : SlopeTest) (rows : List NamedRow) (kappa : Ends) → (detect_by test rows kappa ≡ Fail Few ↔ length rows < 5) }
-    ensures exclude { (test : SlopeTest) (rows : List NamedRow) (kappa kappa_less : Ends) → (exclude_by test rows kappa kappa_less ≡ Fail Few ↔ length rows < 6) }
+    ensures detect { (test : SlopeTest) (rows : List NamedRow) (kappa : Ends) → (detect_by test rows kappa ≡ Unavailable Few ↔ length rows < 5) }
+    ensures exclude { (test : SlopeTest) (rows : List NamedRow) (kappa kappa_less : Ends) → (exclude_by test rows kappa kappa_less ≡ Unavailable Few ↔ length rows < 6) }
 {}

@@ -8,11 +8,9 @@
 mod laws;
 mod outcome;
 mod shift;
-mod subset;
 
 pub use laws::{
     decided_tests_are_right, decided_tests_stay, few_rows_are_few, slopes_are_enclosed,
 };
 pub use outcome::Outcome;
 pub use shift::Shift;
-pub use subset::SubsetVerdict;

@@ -8,8 +8,8 @@ use Rattle.geom_laws.specs.Symmetric.{SymEnds}
 use Rattle.geom_laws.specs.Gram.{gram_of}
 use Rattle.geom_laws.specs.Adjugate.{adjugate_of}
 use Rattle.slope_laws.specs.declared.Outcome.{Outcome}
-use Rattle.slope_laws.specs.declared.SubsetVerdict.{SubsetVerdict}
-use Rattle.slope_laws.specs.declared.SubsetVerdict.TheVariants.{Pass}
+use Rattle.raim_model.specs.declared.Verdict.{Verdict}
+use Rattle.raim_model.specs.declared.Verdict.TheVariants.{Available}
 use Rattle.slope_laws.specs.Rows.{Removal, removals}
 use Rattle.slope_laws.specs.Subsets.{named_without, first_open}
 use Rattle.slope_laws.specs.declared.Shift.{Shift}
@@ -66,22 +66,22 @@ rest_all rows j i rest p h = h ∙ ap (λ ys. without j ys) (take_all i rows p)
 
 -- ---- the subsets
 -- the verdict of the list without the row at j
-pub subset_verdict : (shift : Shift) (rows : List Row) (j : ℕ) (d : Row) (kappa : Ends) (prn : ℕ) (v w : SubsetVerdict) → v ≡ named_without prn w → (slice_index_or rows j d).prn ≡ prn → w ≡ detect_of shift (without j (named rows)) kappa
+pub subset_verdict : (shift : Shift) (rows : List Row) (j : ℕ) (d : Row) (kappa : Ends) (prn : ℕ) (v w : Verdict) → v ≡ named_without prn w → (slice_index_or rows j d).prn ≡ prn → w ≡ detect_of shift (without j (named rows)) kappa
     → v ≡ named_without (removal_of rows j d).row.prn (detect_of shift (removal_of rows j d).rest kappa)
 subset_verdict shift rows j d kappa prn v w a b e = a ∙ ap (named_without prn) e ∙ ap (λ p. named_without p (detect_of shift (without j (named rows)) kappa)) (sym b)
 
-pub subsets_stop : (shift : Shift) (rows : List Row) (j : ℕ) (d : Row) (kappa : Ends) (v : SubsetVerdict) → j < length rows → v ≡ named_without (removal_of rows j d).row.prn (detect_of shift (removal_of rows j d).rest kappa) → is_pass v ≡ false
-    → first_open (λ rest. detect_of shift rest kappa) (take j (removals (named rows))) ≡ Pass → v ≡ first_open (λ rest. detect_of shift rest kappa) (removals (named rows))
+pub subsets_stop : (shift : Shift) (rows : List Row) (j : ℕ) (d : Row) (kappa : Ends) (v : Verdict) → j < length rows → v ≡ named_without (removal_of rows j d).row.prn (detect_of shift (removal_of rows j d).rest kappa) → is_pass v ≡ false
+    → first_open (λ rest. detect_of shift rest kappa) (take j (removals (named rows))) ≡ Available → v ≡ first_open (λ rest. detect_of shift rest kappa) (removals (named rows))
 subsets_stop shift rows j d kappa v p e f h =
     e ∙ sym (open_stops (λ rest. detect_of shift rest kappa) (removals (named rows)) j (removal_of rows j d) (removals_more rows j d p) h (subst (λ u. is_pass u ≡ false) e f))
 
-pub subsets_more : (shift : Shift) (rows : List Row) (j : ℕ) (d : Row) (kappa : Ends) (v : SubsetVerdict) → j < length rows → v ≡ named_without (removal_of rows j d).row.prn (detect_of shift (removal_of rows j d).rest kappa) → is_pass v ≡ true
-    → first_open (λ rest. detect_of shift rest kappa) (take j (removals (named rows))) ≡ Pass → first_open (λ rest. detect_of shift rest kappa) (take (j + 1) (removals (named rows))) ≡ Pass
+pub subsets_more : (shift : Shift) (rows : List Row) (j : ℕ) (d : Row) (kappa : Ends) (v : Verdict) → j < length rows → v ≡ named_without (removal_of rows j d).row.prn (detect_of shift (removal_of rows j d).rest kappa) → is_pass v ≡ true
+    → first_open (λ rest. detect_of shift rest kappa) (take j (removals (named rows))) ≡ Available → first_open (λ rest. detect_of shift rest kappa) (take (j + 1) (removals (named rows))) ≡ Available
 subsets_more shift rows j d kappa v p e f h =
     ap (first_open (λ rest. detect_of shift rest kappa)) (removals_more rows j d p)
     ∙ open_more (λ rest. detect_of shift rest kappa) (take j (removals (named rows))) (removal_of rows j d) h (sym e ∙ pass_is v f)
 
-pub subsets_all : (shift : Shift) (rows : List Row) (j : ℕ) (kappa : Ends) → length rows ≤ j → first_open (λ rest. detect_of shift rest kappa) (take j (removals (named rows))) ≡ Pass → Pass ≡ first_open (λ rest. detect_of shift rest kappa) (removals (named rows))
+pub subsets_all : (shift : Shift) (rows : List Row) (j : ℕ) (kappa : Ends) → length rows ≤ j → first_open (λ rest. detect_of shift rest kappa) (take j (removals (named rows))) ≡ Available → Available ≡ first_open (λ rest. detect_of shift rest kappa) (removals (named rows))
 subsets_all shift rows j kappa p h =
     let n = count rows in
     sym h ∙ ap (first_open (λ rest. detect_of shift rest kappa)) (take_all j (removals (named rows)) (omega arith))

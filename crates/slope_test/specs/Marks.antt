@@ -3,7 +3,7 @@ use Rattle.std.specs.Prelude.{◌≡◌, ℕ, ◌<◌, Bool, true, false, List, 
 use Rattle.fix_interval.specs.Ends.{Ends}
 use Rattle.geometry_laws.specs.Without.{without}
 use Rattle.slope_laws.specs.declared.Outcome.TheVariants.{Passes}
-use Rattle.slope_laws.specs.declared.SubsetVerdict.TheVariants.{Pass}
+use Rattle.raim_model.specs.declared.Verdict.TheVariants.{Available}
 use Rattle.slope_laws.specs.declared.Shift.{Shift}
 use Rattle.slope_laws.specs.Rows.{NamedRow, Removal}
 use Rattle.slope_laws.specs.ShiftSlopes.{slopes_for, detect_of}
@@ -18,4 +18,4 @@ SlopesPass shift rows kappa marks = (i : ℕ) (row : NamedRow) → i < length ro
 
 -- the lists without the row at a marked place pass
 abbrev pub ListsPass : Shift → List NamedRow → (kappa_less : Ends) → (marks : List Bool) → Type 0
-ListsPass shift rows kappa_less marks = (i : ℕ) → i < length rows → slice_index_or marks i false ≡ true → detect_of shift (without i rows) kappa_less ≡ Pass
+ListsPass shift rows kappa_less marks = (i : ℕ) → i < length rows → slice_index_or marks i false ≡ true → detect_of shift (without i rows) kappa_less ≡ Available

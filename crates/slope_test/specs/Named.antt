@@ -1,7 +1,7 @@
 -- The rows of the program with their satellites' numbers.
 use Rattle.std.specs.Prelude.{Bool, true, false, List, map}
-use Rattle.slope_laws.specs.declared.SubsetVerdict.{SubsetVerdict}
-use Rattle.slope_laws.specs.declared.SubsetVerdict.TheVariants.{Pass}
+use Rattle.raim_model.specs.declared.Verdict.{Verdict}
+use Rattle.raim_model.specs.declared.Verdict.TheVariants.{Available}
 use Rattle.fix_interval.specs.Ends.{Ends}
 use Rattle.geom_inverse.specs.declared.Row.{Row}
 use Rattle.slope_laws.specs.declared.Outcome.{Outcome}
@@ -20,6 +20,6 @@ named rows = map named_row rows
 abbrev pub slopes_over : Shift → List Row → (kappa : Ends) → Removal → Outcome
 slopes_over shift rows kappa x = (slopes_for shift).outcome (named rows) x kappa
 
-abbrev pub is_pass : SubsetVerdict → Bool
-is_pass Pass = true
+abbrev pub is_pass : Verdict → Bool
+is_pass Available = true
 is_pass verdict = false

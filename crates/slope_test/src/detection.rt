@@ -22,8 +22,8 @@ use crate::slope::{one_slope, squared};
 use crate::tally::Tally;
 use fix_interval::{Iv, Iv64};
 use geom_inverse::{Row, Sym4, adjugate, det_64, det_without, gram_of_sums, sums};
-use raim_model::{Cmp, Why};
-use slope_laws::{Outcome, Shift, SubsetVerdict};
+use raim_model::{Cmp, Verdict, Why};
+use slope_laws::{Outcome, Shift};
 
 /// The least determinant of a geometry that counts as regular, 2^-10 in units of 2^-38.
 pub(crate) const LEAST: i64 = 268435456;
@@ -57,7 +57,7 @@ fn slopes(
     dets: &[Iv64],
     from: usize,
     kappa: Iv,
-) -> SubsetVerdict
+) -> Verdict
     requires few { length rows.now ≤ 32 }
     requires adj { sym_ends adj.now ≡ adjugate_of (gram_of (rows_ends rows.now)) }
     requires adj_small { IsSymWithin adj.now (13 * 2 ^ 52) }
@@ -103,7 +103,7 @@ pub fn detect_from(
     from: usize,
     known: usize,
     kappa: Iv,
-) -> SubsetVerdict
+) -> Verdict
     requires few { length rows.now ≤ 32 }
     requires all { sym_ends all.now ≡ sums_of (rows_ends rows.now) }
     requires determinant { ends_64 determinant ≡ determinant_of (rows_ends rows.now) }
@@ -112,17 +112,17 @@ pub fn detect_from(
     requires dets { AreDeterminants dets.old from known (rows_ends rows.now) }
     ensures exact { result ≡ detect_of shift (named rows.now) (ends kappa) }
     ensures length { length dets.new ≡ length dets.old }
-    ensures dets { result ≡ SubsetVerdict.Pass → AreDeterminants dets.new from (length rows.now) (rows_ends rows.now) }
+    ensures dets { result ≡ Verdict.Available → AreDeterminants dets.new from (length rows.now) (rows_ends rows.now) }
     ensures before { AreKept dets.old dets.new from }
 {
     if rows.len() < 5 {
-        return SubsetVerdict::Fail(Why::Few);
+        return Verdict::Unavailable(Why::Few);
     }
     if determinant.hi < LEAST {
-        return SubsetVerdict::Fail(Why::Singular);
+        return Verdict::Unavailable(Why::Singular);
     }
     if determinant.lo < LEAST {
-        return SubsetVerdict::Straddle(Cmp::Det);
+        return Verdict::Undecided(Cmp::Det);
     }
     add_determinants(rows, all, dets, from, known);
     let adj = adjugate(&gram_of_sums(all, rows));
@@ -131,7 +131,7 @@ pub fn detect_from(
 
 /// The test of a list of at most 32 rows, in rising PRN, for fault detection: whether the geometry is regular and each squared
 /// slope of the shift, times `kappa`, the squared ratio of the bias to the alert limit, is within 1.
-pub fn detect_over(shift: Shift, rows: &[Row], kappa: Iv) -> SubsetVerdict
+pub fn detect_over(shift: Shift, rows: &[Row], kappa: Iv) -> Verdict
     requires few { length rows.now ≤ 32 }
     ensures exact { result ≡ detect_of shift (named rows.now) (ends kappa) }
     // what is decided is the reason of every choice of rows and factors inside, or that there is none
@@ -141,7 +141,7 @@ pub fn detect_over(shift: Shift, rows: &[Row], kappa: Iv) -> SubsetVerdict
     ensures isotone { (wide : List NamedRow) (wide_kappa : Ends) → NamedRowsInside (named rows.now) wide → IsInside (ends kappa) wide_kappa
         → LeavesVerdict (detect_of shift wide wide_kappa) result }
     // there are too few exactly below five
-    ensures few { result ≡ SubsetVerdict.Fail Few ↔ length rows.now < 5 }
+    ensures few { result ≡ Verdict.Unavailable Few ↔ length rows.now < 5 }
 {
     let all = sums(rows);
     let determinant = det_64(&gram_of_sums(&all, rows));
@@ -150,14 +150,14 @@ pub fn detect_over(shift: Shift, rows: &[Row], kappa: Iv) -> SubsetVerdict
 }
 
 /// `detect_over` for the horizontal shift.
-pub fn detect(rows: &[Row], kappa: Iv) -> SubsetVerdict
+pub fn detect(rows: &[Row], kappa: Iv) -> Verdict
     requires few { length rows.now ≤ 32 }
     ensures exact { result ≡ detect_of Shift.Horizontal (named rows.now) (ends kappa) }
     ensures right { (gs : List ExactRow) (k k_less : Fraction) → NamedRowsLie (named rows.now) gs → Lies (ends kappa) 38 k
         → Tells result (reason_of horizontal false k k_less gs) }
     ensures isotone { (wide : List NamedRow) (wide_kappa : Ends) → NamedRowsInside (named rows.now) wide → IsInside (ends kappa) wide_kappa
         → LeavesVerdict (detect_of Shift.Horizontal wide wide_kappa) result }
-    ensures few { result ≡ SubsetVerdict.Fail Few ↔ length rows.now < 5 }
+    ensures few { result ≡ Verdict.Unavailable Few ↔ length rows.now < 5 }
 {
     detect_over(Shift::Horizontal, rows, kappa)
 }

@@ -6,8 +6,8 @@ ghost use Rattle.slope_laws.specs.Rows.{Removal};
 ghost use Rattle.slope_laws.specs.Slopes.{slopes_of, is_fails, is_straddles, is_overflows};
 ghost use Rattle.slope_test.specs.Tallies.{kept_first, IsTally};
 
-use raim_model::{Cmp, Why};
-use slope_laws::{Outcome, SubsetVerdict};
+use raim_model::{Cmp, Verdict, Why};
+use slope_laws::Outcome;
 
 /// The first satellites whose slopes overflow, fail and straddle.
 #[derive(Clone, Copy)]
@@ -83,16 +83,16 @@ impl Tally {
     }
 
     /// What the slopes make of the list.
-    pub(crate) fn verdict(self) -> SubsetVerdict
+    pub(crate) fn verdict(self) -> Verdict
         ensures { (outcome : Removal → Outcome) (xs : List Removal) → IsTally self outcome xs → result ≡ slopes_of outcome xs }
     {
         match self.overflows {
-            Some(prn) => SubsetVerdict::Overflow(prn),
+            Some(prn) => Verdict::Overflow(prn),
             None => match self.fails {
-                Some(_) => SubsetVerdict::Fail(Why::Slope),
+                Some(_) => Verdict::Unavailable(Why::Slope),
                 None => match self.straddles {
-                    Some(prn) => SubsetVerdict::Straddle(Cmp::Slope(prn)),
-                    None => SubsetVerdict::Pass,
+                    Some(prn) => Verdict::Undecided(Cmp::Slope(prn)),
+                    None => Verdict::Available,
                 },
             },
         }

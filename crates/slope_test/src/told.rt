@@ -17,8 +17,8 @@ use crate::marks::Marks;
 use crate::tally::{Tally, passes};
 use fix_interval::{Iv, Iv64};
 use geom_inverse::{Row, Sym4, adjugate, det_64, det_without, gram_of_sums, sums};
-use raim_model::{Cmp, Why};
-use slope_laws::{Outcome, Shift, SubsetVerdict};
+use raim_model::{Cmp, Verdict, Why};
+use slope_laws::{Outcome, Shift};
 
 /// How the slope of the row at place `i` compares, where the sums, the adjugate and the determinant of all rows are at hand and it
 /// may be known that it passes; if it does, that is known then.
@@ -62,7 +62,7 @@ fn slopes_told(
     determinant: Iv64,
     kappa: Iv,
     known: &mut Marks,
-) -> SubsetVerdict
+) -> Verdict
     requires few { length rows.now ≤ 32 }
     requires all { sym_ends all.now ≡ sums_of (rows_ends rows.now) }
     requires adj { sym_ends adj.now ≡ adjugate_of (gram_of (rows_ends rows.now)) }
@@ -80,44 +80,37 @@ fn slopes_told(
     tally.verdict()
 }
 
-/// The answer of `detect_over`, where the sums over the rows and their determinant are at hand and the slopes at the places of
-/// `known` are known to pass. Those that pass are known then.
-pub fn detect_told(
-    shift: Shift,
-    rows: &[Row],
-    all: &Sym4,
-    determinant: Iv64,
-    kappa: Iv,
-    known: &mut Marks,
-) -> SubsetVerdict
+/// The answer of `detect_over`, where the sums over the rows are at hand and the slopes at the places of `known` are known to pass.
+/// Those that pass are known then.
+pub fn detect_told(shift: Shift, rows: &[Row], all: &Sym4, kappa: Iv, known: &mut Marks) -> Verdict
     requires few { length rows.now ≤ 32 }
     requires all { sym_ends all.now ≡ sums_of (rows_ends rows.now) }
-    requires determinant { ends_64 determinant ≡ determinant_of (rows_ends rows.now) }
     requires known { SlopesPass shift (named rows.now) (ends kappa) known.old.places }
     ensures exact { result ≡ detect_of shift (named rows.now) (ends kappa) }
     ensures known { SlopesPass shift (named rows.now) (ends kappa) known.new.places }
 {
     if rows.len() < 5 {
-        return SubsetVerdict::Fail(Why::Few);
+        return Verdict::Unavailable(Why::Few);
     }
+    let gram = gram_of_sums(all, rows);
+    let determinant = det_64(&gram);
     if determinant.hi < LEAST {
-        return SubsetVerdict::Fail(Why::Singular);
+        return Verdict::Unavailable(Why::Singular);
     }
     if determinant.lo < LEAST {
-        return SubsetVerdict::Straddle(Cmp::Det);
+        return Verdict::Undecided(Cmp::Det);
     }
-    let adj = adjugate(&gram_of_sums(all, rows));
+    let adj = adjugate(&gram);
     slopes_told(shift, rows, all, &adj, determinant, kappa, known)
 }
 
 /// The answer of `detect_over`, where the slopes at the places of `known` are known to pass. Those that pass are known then.
-pub fn detect_over_told(shift: Shift, rows: &[Row], kappa: Iv, known: &mut Marks) -> SubsetVerdict
+pub fn detect_over_told(shift: Shift, rows: &[Row], kappa: Iv, known: &mut Marks) -> Verdict
     requires few { length rows.now ≤ 32 }
     requires known { SlopesPass shift (named rows.now) (ends kappa) known.old.places }
     ensures exact { result ≡ detect_of shift (named rows.now) (ends kappa) }
     ensures known { SlopesPass shift (named rows.now) (ends kappa) known.new.places }
 {
     let all = sums(rows);
-    let determinant = det_64(&gram_of_sums(&all, rows));
-    detect_told(shift, rows, &all, determinant, kappa, known)
+    detect_told(shift, rows, &all, kappa, known)
 }

@@ -1,6 +1,7 @@
 // Small flights, judged.
 
 mod changes;
+mod counted;
 mod flights;
 mod looks;
 mod runs;

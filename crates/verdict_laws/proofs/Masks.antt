@@ -20,12 +20,12 @@ use Rattle.raim_model.specs.CaseCuts.{InRootPiece}
 use Rattle.flight_laws.proofs.Usable.{usable_recorded, records_in_force}
 use Rattle.slope_laws.specs.Slopes.{SlopeTest}
 use Rattle.verdict_laws.specs.Sights.{Sight, Sighted, sighted_over, first_straddling, rows_seen}
-use Rattle.verdict_laws.specs.PieceVerdict.{test_by, verdict_given, unless_straddling, verdict_by, piece_verdict_by}
+use Rattle.verdict_laws.specs.PieceVerdict.{test_by, unless_straddling, verdict_by, piece_verdict_by}
 use Rattle.verdict_laws.specs.NearMask.{AreNearMask, IsNearMaskAlways}
 use Rattle.verdict_laws.specs.Hold.{HoldsSights}
 use Rattle.verdict_laws.proofs.Seen.{few_or_enough}
 use Rattle.verdict_laws.proofs.Straddling.{Straddling, Distinct, FoundStraddling, distinct_rising, found}
-use Rattle.verdict_laws.proofs.NoMask.{given_no_mask, test_no_mask}
+use Rattle.verdict_laws.proofs.NoMask.{test_no_mask}
 
 -- only a satellite that straddles makes a verdict undecided by the mask
 mask_straddles : (o : Option ℕ) (v : Verdict) (prn : ℕ) → v ≢ verdict.Undecided (Mask prn) → unless_straddling o v ≡ verdict.Undecided (Mask prn) → o ≡ Some prn
@@ -36,7 +36,7 @@ mask_straddles None v prn n e = absurd (n e)
 undecided_straddles : (test : SlopeTest) (limits : Limits) (alert_mm : ℕ) (seen : List Sighted) (prn : ℕ) → verdict_by test limits alert_mm seen ≡ verdict.Undecided (Mask prn) → first_straddling seen ≡ Some prn
 undecided_straddles test limits alert_mm seen prn h = elim (few_or_enough test limits alert_mm seen) [
   | inl f ↦ absurd (not_few (sym f.1 ∙ h))
-  | inr f ↦ mask_straddles (first_straddling seen) (verdict_given (test_by test limits alert_mm (rows_seen seen))) prn (given_no_mask (test_by test limits alert_mm (rows_seen seen)) (test_no_mask test limits alert_mm (rows_seen seen)) prn) (sym f.1 ∙ h)
+  | inr f ↦ mask_straddles (first_straddling seen) (test_by test limits alert_mm (rows_seen seen)) prn (test_no_mask test limits alert_mm (rows_seen seen) prn) (sym f.1 ∙ h)
 ]
   where
     not_few : verdict.Unavailable Few ≢ verdict.Undecided (Mask prn)

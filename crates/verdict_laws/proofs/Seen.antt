@@ -11,12 +11,11 @@ use Rattle.raim_model.specs.declared.verdict.Verdict.{Verdict}
 use Rattle.raim_model.specs.declared.verdict.Verdict.TheVariants as verdict
 use Rattle.raim_model.specs.Judgements.{is_certain}
 use Rattle.raim_model.specs.PointVerdict.{least_count}
-use Rattle.slope_laws.specs.declared.subset.SubsetVerdict.{SubsetVerdict}
-use Rattle.slope_laws.specs.declared.subset.SubsetVerdict.TheVariants.{Pass, Fail, Straddle, Overflow}
+use Rattle.raim_model.specs.declared.verdict.Verdict.TheVariants.{Available, Unavailable, Undecided, Overflow}
 use Rattle.slope_laws.specs.Rows.{NamedRow, NamedRowsInside}
 use Rattle.slope_laws.specs.Slopes.{SlopeTest}
 use Rattle.verdict_laws.specs.Sights.{Sight, Visible, Hidden, Straddles, Sighted, sighted_over, one_if_possible, count_possible, or_straddling, first_straddling, rows_seen}
-use Rattle.verdict_laws.specs.PieceVerdict.{kappa_over, test_by, verdict_given, unless_straddling, verdict_by}
+use Rattle.verdict_laws.specs.PieceVerdict.{kappa_over, test_by, unless_straddling, verdict_by}
 use Rattle.slope_laws.specs.Hold.{LeavesVerdict, HoldsSlopes}
 use Rattle.verdict_laws.specs.Hold.{LeavesSight}
 use Rattle.slope_laws.proofs.Kept.{inside_length, detect_left, exclude_left}
@@ -70,12 +69,12 @@ pub same_seen : (wide inside : AlmRecord → Sight) (recs : List AlmRecord) → 
 same_seen wide inside [] l h = record { count = refl; none = refl; rows = tt }
 same_seen wide inside (rec ∷ recs) l h = same_left rec.prn (wide rec) (inside rec) (sighted_over wide recs) (sighted_over inside recs) l.0 h (same_seen wide inside recs l.1)
 
--- the verdict that a decided test gives is that of the rows inside
-given_left : (wide inside : SubsetVerdict) → LeavesVerdict wide inside → is_certain (verdict_given wide) ≡ true → verdict_given inside ≡ verdict_given wide
-given_left Pass inside l e = ap verdict_given l
-given_left (Fail w) inside l e = ap verdict_given l
-given_left (Straddle c) inside l e = absurd (cc)
-given_left (Overflow p) inside l e = absurd (cc)
+-- a decided verdict is that of the rows inside
+decided_left : (wide inside : Verdict) → LeavesVerdict wide inside → is_certain wide ≡ true → inside ≡ wide
+decided_left Available inside l e = l
+decided_left (Unavailable w) inside l e = l
+decided_left (Undecided c) inside l e = absurd (cc)
+decided_left (Overflow p) inside l e = absurd (cc)
 
 -- the test of wider rows is left to rows inside
 test_left : {shift : SquaredShift} (test : SlopeTest) → HoldsSlopes shift test → (limits : Limits) (alert_mm : ℕ) → 1 ≤ alert_mm → (wide rows : List NamedRow) → NamedRowsInside rows wide → LeavesVerdict (test_by test limits alert_mm wide) (test_by test limits alert_mm rows)
@@ -94,7 +93,7 @@ few_is test limits alert_mm seen h = rw (lt-ltb (count_possible seen) (least_cou
 
 -- and where enough may be, it is what the mask and the test make of them
 enough_is : (test : SlopeTest) (limits : Limits) (alert_mm : ℕ) (seen : List Sighted) → least_count limits.exclude ≤ count_possible seen
-    → verdict_by test limits alert_mm seen ≡ unless_straddling (first_straddling seen) (verdict_given (test_by test limits alert_mm (rows_seen seen)))
+    → verdict_by test limits alert_mm seen ≡ unless_straddling (first_straddling seen) (test_by test limits alert_mm (rows_seen seen))
 unfolding verdict_by
 enough_is test limits alert_mm seen h = rw (le-ltb (count_possible seen) (least_count limits.exclude) h) refl
 
@@ -106,7 +105,7 @@ no_straddle None v e = refl
 -- one or the other
 pub few_or_enough : (test : SlopeTest) (limits : Limits) (alert_mm : ℕ) (seen : List Sighted)
     → ((count_possible seen < least_count limits.exclude) × (verdict_by test limits alert_mm seen ≡ verdict.Unavailable Few))
-    ⊎ ((least_count limits.exclude ≤ count_possible seen) × (verdict_by test limits alert_mm seen ≡ unless_straddling (first_straddling seen) (verdict_given (test_by test limits alert_mm (rows_seen seen)))))
+    ⊎ ((least_count limits.exclude ≤ count_possible seen) × (verdict_by test limits alert_mm seen ≡ unless_straddling (first_straddling seen) (test_by test limits alert_mm (rows_seen seen))))
 few_or_enough test limits alert_mm seen = elim (cases_lt (count_possible seen) (least_count limits.exclude)) [
   | inl h ↦ inl (h, few_is test limits alert_mm seen h)
   | inr h ↦ inr (h, enough_is test limits alert_mm seen h)
@@ -124,18 +123,18 @@ verdict_left test holds limits alert_mm a wide inside recs l certain = elim (few
     fewer h = let le = count_left wide inside recs l in omega arith
 
     with_enough : least_count limits.exclude ≤ count_possible (sighted_over wide recs)
-        → verdict_by test limits alert_mm (sighted_over wide recs) ≡ unless_straddling (first_straddling (sighted_over wide recs)) (verdict_given (test_by test limits alert_mm (rows_seen (sighted_over wide recs))))
+        → verdict_by test limits alert_mm (sighted_over wide recs) ≡ unless_straddling (first_straddling (sighted_over wide recs)) (test_by test limits alert_mm (rows_seen (sighted_over wide recs)))
         → verdict_by test limits alert_mm (sighted_over inside recs) ≡ verdict_by test limits alert_mm (sighted_over wide recs)
     with_enough enough e =
         let w : List Sighted = sighted_over wide recs in
         let i : List Sighted = sighted_over inside recs in
-        let given : Verdict = verdict_given (test_by test limits alert_mm (rows_seen w)) in
-        let c : is_certain (unless_straddling (first_straddling w) given) ≡ true = subst (λ v. is_certain v ≡ true) e certain in
-        let n : first_straddling w ≡ None = no_straddle (first_straddling w) given c in
+        let tested : Verdict = test_by test limits alert_mm (rows_seen w) in
+        let c : is_certain (unless_straddling (first_straddling w) tested) ≡ true = subst (λ v. is_certain v ≡ true) e certain in
+        let n : first_straddling w ≡ None = no_straddle (first_straddling w) tested c in
         let s : SameSeen w i = same_seen wide inside recs l n in
-        let d : is_certain given ≡ true = subst (λ o. is_certain (unless_straddling o given) ≡ true) n c in
+        let d : is_certain tested ≡ true = subst (λ o. is_certain (unless_straddling o tested) ≡ true) n c in
         let many : least_count limits.exclude ≤ count_possible i = subst (λ t. least_count limits.exclude ≤ t) (sym s.count) enough in
         enough_is test limits alert_mm i many
-        ∙ ap (λ o. unless_straddling o (verdict_given (test_by test limits alert_mm (rows_seen i)))) s.none
-        ∙ given_left (test_by test limits alert_mm (rows_seen w)) (test_by test limits alert_mm (rows_seen i)) (test_left test holds limits alert_mm a (rows_seen w) (rows_seen i) s.rows) d
-        ∙ sym (e ∙ ap (λ o. unless_straddling o given) n)
+        ∙ ap (λ o. unless_straddling o (test_by test limits alert_mm (rows_seen i))) s.none
+        ∙ decided_left (test_by test limits alert_mm (rows_seen w)) (test_by test limits alert_mm (rows_seen i)) (test_left test holds limits alert_mm a (rows_seen w) (rows_seen i) s.rows) d
+        ∙ sym (e ∙ ap (λ o. unless_straddling o tested) n)

@@ -17,12 +17,11 @@ use Rattle.raim_model.specs.PointVerdict.{least_count, kappa_of, reason_of, verd
 use Rattle.raim_model.specs.Weights.{weight_of}
 use Rattle.raim_model.specs.Solution.{Case, Sighting, Sightings, is_seen, visible_rows}
 use Rattle.flight_laws.proofs.Few.{few_reason}
-use Rattle.slope_laws.specs.declared.subset.SubsetVerdict.{SubsetVerdict}
-use Rattle.slope_laws.specs.declared.subset.SubsetVerdict.TheVariants.{Pass, Fail, Straddle, Overflow}
+use Rattle.raim_model.specs.declared.verdict.Verdict.TheVariants.{Available, Unavailable, Undecided, Overflow}
 use Rattle.slope_laws.specs.Rows.{NamedRow, NamedRowsLie}
 use Rattle.slope_laws.specs.Slopes.{SlopeTest}
 use Rattle.verdict_laws.specs.Sights.{Sight, Visible, Hidden, Straddles, Sighted, sighted_over, count_possible, first_straddling, rows_seen}
-use Rattle.verdict_laws.specs.PieceVerdict.{kappa_over, test_by, verdict_given, unless_straddling, verdict_by}
+use Rattle.verdict_laws.specs.PieceVerdict.{kappa_over, test_by, unless_straddling, verdict_by}
 use Rattle.slope_laws.specs.Hold.{Tells, HoldsSlopes}
 use Rattle.verdict_laws.specs.Hold.{Shows}
 use Rattle.slope_laws.proofs.Told.{lie_length, detect_reason, exclude_reason}
@@ -57,12 +56,12 @@ rows_shown N c t from sight [] s h = record { count = omega arith; rows = λ o. 
 rows_shown N c t from sight (rec ∷ recs) s h =
     shown_here N c t from rec (sight rec) s.0 (sighted_over sight recs) (visible_rows N c t from recs s.1) h.0 (rows_shown N c t from sight recs s.1 h.1)
 
--- the verdict that a decided test gives is that of its reason
-given_tells : (v : SubsetVerdict) (reason : Option Why) → Tells v reason → is_certain (verdict_given v) ≡ true → verdict_for reason ≡ verdict_given v
-given_tells Pass reason t e = ap verdict_for t
-given_tells (Fail w) reason t e = ap verdict_for t
-given_tells (Straddle c) reason t e = absurd (cc)
-given_tells (Overflow p) reason t e = absurd (cc)
+-- a decided verdict is that of its reason
+decided_tells : (v : Verdict) (reason : Option Why) → Tells v reason → is_certain v ≡ true → verdict_for reason ≡ v
+decided_tells Available reason t e = ap verdict_for t
+decided_tells (Unavailable w) reason t e = ap verdict_for t
+decided_tells (Undecided c) reason t e = absurd (cc)
+decided_tells (Overflow p) reason t e = absurd (cc)
 
 -- the test tells the reason of the rows inside
 test_tells : (shift : SquaredShift) (test : SlopeTest) → HoldsSlopes shift test → (limits : Limits) (alert_mm : ℕ) → 1 ≤ alert_mm → (rows : List NamedRow) (gs : List Row) → NamedRowsLie rows gs
@@ -86,12 +85,12 @@ verdict_shown shift test holds limits alert_mm a seen gs s certain = elim (few_o
     fewer : count_possible seen < least_count limits.exclude → length gs < least_count limits.exclude
     fewer h = let le = s.count in omega arith
 
-    enough : verdict_by test limits alert_mm seen ≡ unless_straddling (first_straddling seen) (verdict_given (test_by test limits alert_mm (rows_seen seen)))
+    enough : verdict_by test limits alert_mm seen ≡ unless_straddling (first_straddling seen) (test_by test limits alert_mm (rows_seen seen))
         → verdict_for (reason_of shift limits.exclude (kappa_of limits alert_mm (length gs)) (kappa_of limits alert_mm (length gs - 1)) gs) ≡ verdict_by test limits alert_mm seen
     enough e =
-        let given : Verdict = verdict_given (test_by test limits alert_mm (rows_seen seen)) in
-        let c : is_certain (unless_straddling (first_straddling seen) given) ≡ true = subst (λ v. is_certain v ≡ true) e certain in
-        let n : first_straddling seen ≡ None = no_straddle (first_straddling seen) given c in
-        let d : is_certain given ≡ true = subst (λ o. is_certain (unless_straddling o given) ≡ true) n c in
-        given_tells (test_by test limits alert_mm (rows_seen seen)) (reason_of shift limits.exclude (kappa_of limits alert_mm (length gs)) (kappa_of limits alert_mm (length gs - 1)) gs) (test_tells shift test holds limits alert_mm a (rows_seen seen) gs (s.rows n)) d
-        ∙ sym (e ∙ ap (λ o. unless_straddling o given) n)
+        let tested : Verdict = test_by test limits alert_mm (rows_seen seen) in
+        let c : is_certain (unless_straddling (first_straddling seen) tested) ≡ true = subst (λ v. is_certain v ≡ true) e certain in
+        let n : first_straddling seen ≡ None = no_straddle (first_straddling seen) tested c in
+        let d : is_certain tested ≡ true = subst (λ o. is_certain (unless_straddling o tested) ≡ true) n c in
+        decided_tells (test_by test limits alert_mm (rows_seen seen)) (reason_of shift limits.exclude (kappa_of limits alert_mm (length gs)) (kappa_of limits alert_mm (length gs - 1)) gs) (test_tells shift test holds limits alert_mm a (rows_seen seen) gs (s.rows n)) d
+        ∙ sym (e ∙ ap (λ o. unless_straddling o tested) n)

@@ -11,8 +11,6 @@ use Rattle.raim_model.specs.PointVerdict.{bias_of, least_count}
 use Rattle.raim_model.specs.Solution.{Case, usable}
 use Rattle.fix_interval.specs.Ends.{Ends}
 use Rattle.fix_interval.specs.Quotients.{from_ratio_of}
-use Rattle.slope_laws.specs.declared.subset.SubsetVerdict.{SubsetVerdict}
-use Rattle.slope_laws.specs.declared.subset.SubsetVerdict.TheVariants.{Pass, Fail, Straddle, Overflow}
 use Rattle.slope_laws.specs.Rows.{NamedRow}
 use Rattle.slope_laws.specs.Slopes.{SlopeTest, detect_by}
 use Rattle.slope_laws.specs.Subsets.{exclude_by}
@@ -24,17 +22,10 @@ kappa_over limits alert_mm n = from_ratio_of (pos (bias_of limits n * bias_of li
 
 -- the test of the n visible rows as the mode has it: under kappa(n), and in exclude mode also of each list without one row under
 -- kappa(n - 1)
-abbrev pub test_by : SlopeTest → Limits → (alert_mm : ℕ) → List NamedRow → SubsetVerdict
+abbrev pub test_by : SlopeTest → Limits → (alert_mm : ℕ) → List NamedRow → Verdict
 test_by test limits alert_mm rows =
     if limits.exclude then exclude_by test rows (kappa_over limits alert_mm (length rows)) (kappa_over limits alert_mm (length rows - 1))
     else detect_by test rows (kappa_over limits alert_mm (length rows))
-
--- what the test answers, as a verdict
-abbrev pub verdict_given : SubsetVerdict → Verdict
-verdict_given Pass = verdict.Available
-verdict_given (Fail why) = verdict.Unavailable why
-verdict_given (Straddle comparison) = verdict.Undecided comparison
-verdict_given (Overflow prn) = verdict.Overflow prn
 
 -- undecided by the mask of a satellite that straddles it, if there is one, and else the next
 abbrev pub unless_straddling : Option ℕ → Verdict → Verdict
@@ -46,7 +37,7 @@ unless_straddling None next = next
 unfoldable pub verdict_by : SlopeTest → Limits → (alert_mm : ℕ) → List Sighted → Verdict
 verdict_by test limits alert_mm seen =
     if nat_lt (count_possible seen) (least_count limits.exclude) then verdict.Unavailable Few
-    else unless_straddling (first_straddling seen) (verdict_given (test_by test limits alert_mm (rows_seen seen)))
+    else unless_straddling (first_straddling seen) (test_by test limits alert_mm (rows_seen seen))
 
 -- what is seen over the piece of the satellites that are usable at its first millisecond
 abbrev pub seen_over : (AlmRecord → ℤ → ℤ → Sight) → Case → (first last : ℤ) → List Sighted

@@ -9,8 +9,8 @@ use crate::piece::looks_within;
 use crate::tests::flights::{Flight, WEEK, case_of, flight_of};
 use flight_samples::{EIGHT, FIVE, MILD, OVERHEAD, SECOND, sem_almanac};
 use piece_verdict::{Alert, FlightJudge, Looks};
-use raim_model::{Cmp, Why};
-use slope_laws::{Shift, SubsetVerdict};
+use raim_model::{Cmp, Verdict, Why};
+use slope_laws::Shift;
 use slope_test::detect_over;
 use std::alloc::Global;
 use std::marker::Brand;
@@ -125,13 +125,7 @@ fn has_looks(alloc: Global, flight: Flight, lines: &str) -> bool {
 }
 
 /// What the test upwards makes of the rows over a piece, against an alert limit in millimetres.
-fn upwards(
-    alloc: Global,
-    flight: Flight,
-    first: i64,
-    last: i64,
-    limit_mm: u32,
-) -> Option<SubsetVerdict> {
+fn upwards(alloc: Global, flight: Flight, first: i64, last: i64, limit_mm: u32) -> Option<Verdict> {
     let case = case_of(alloc, flight)?;
     let judge = FlightJudge {
         case,
@@ -200,9 +194,9 @@ fn rows_are_tested_upwards(rt: HostRuntime) -> Result<(), Fail> {
     let eight = [sem_almanac(alloc, "2338", &EIGHT)?];
     let second = flight_of(WEIGHED, &five, "", SECOND);
     let ten = flight_of(SETTING, &eight, "", TEN);
-    let steep = SubsetVerdict::Fail(Why::Slope);
-    let open = SubsetVerdict::Straddle(Cmp::Slope(1));
-    let passes = SubsetVerdict::Pass;
+    let steep = Verdict::Unavailable(Why::Slope);
+    let open = Verdict::Undecided(Cmp::Slope(1));
+    let passes = Verdict::Available;
     for (flight, first, last, limit_mm, expected) in [
         (second, 0, 0, 5, steep),
         (second, 0, 0, 6, passes),

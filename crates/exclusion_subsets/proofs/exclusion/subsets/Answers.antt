@@ -2,8 +2,8 @@ use Rattle.std.proofs.Common.{◌≡◌, ◌+◌, ◌-◌, arith, ap, refl, sym,
 use Rattle.std.specs.Prelude.{true, false, slice_index_or}
 use Rattle.std.proofs.lemmas.List.{length-set, length-take-le}
 use Rattle.fix_interval.specs.Intervals.{ends, ends_64}
-use Rattle.slope_laws.specs.declared.SubsetVerdict.{SubsetVerdict}
-use Rattle.slope_laws.specs.declared.SubsetVerdict.TheVariants.{Pass, Fail, Straddle, Overflow}
+use Rattle.raim_model.specs.declared.Verdict.{Verdict}
+use Rattle.raim_model.specs.declared.Verdict.TheVariants.{Available, Unavailable, Undecided, Overflow}
 use Rattle.slope_laws.specs.Subsets.{named_without}
 use Rattle.slope_test.specs.Named.{is_pass}
 use Rattle.slope_test.proofs.Loops.{subset_verdict, subsets_stop, subsets_more, subsets_all}
@@ -13,10 +13,10 @@ use Rattle.exclusion_subsets.proofs.Rests.{rest_is, rest_next}
 use Rattle.exclusion_subsets.proofs.exclusion.subsets.Goals as goal
 
 -- a name changes nothing in a list that passes
-named_pass : (prn : ℕ) (v : SubsetVerdict) → named_without prn v ≡ Pass → v ≡ Pass
-named_pass prn Pass e = refl
-named_pass prn (Fail w) e = absurd (cc)
-named_pass prn (Straddle c) e = absurd (cc)
+named_pass : (prn : ℕ) (v : Verdict) → named_without prn v ≡ Available → v ≡ Available
+named_pass prn Available e = refl
+named_pass prn (Unavailable w) e = absurd (cc)
+named_pass prn (Undecided c) e = absurd (cc)
 named_pass prn (Overflow p) e = absurd (cc)
 
 pub loop-j-init : goal.loop-j-init
@@ -62,7 +62,7 @@ returns-then-not-passes c =
 pub remember-requires-clause-dets : goal.remember-requires-clause-dets
 remember-requires-clause-dets c =
     let f : is_pass c.name_without-verdict.result ≡ true = sym c.passes.ensures ∙ c.if-not-passes.false in
-    let v : c.subset-detected.result ≡ Pass = named_pass _ c.subset-detected.result (sym c.name_without-verdict.ensures ∙ pass_is c.name_without-verdict.result f) in
+    let v : c.subset-detected.result ≡ Available = named_pass _ c.subset-detected.result (sym c.name_without-verdict.ensures ∙ pass_is c.name_without-verdict.result f) in
     let few = c.requires.few in
     let size = c.loop-j.invariant.size in
     let n = length-take-le (length c.args.rows.now - 1) c.loop-j.rest (omega arith) in

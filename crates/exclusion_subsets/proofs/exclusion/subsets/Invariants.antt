@@ -1,6 +1,6 @@
 use Rattle.std.proofs.Common.{◌≡◌, ◌-◌, take, length}
 use Rattle.fix_interval.specs.Intervals.{ends}
-use Rattle.slope_laws.specs.declared.subset.SubsetVerdict.TheVariants.{Pass}
+use Rattle.raim_model.specs.declared.verdict.Verdict.TheVariants.{Available}
 use Rattle.slope_laws.specs.Rows.{removals}
 use Rattle.slope_laws.specs.Subsets.{first_open}
 use Rattle.slope_laws.specs.ShiftSlopes.{detect_of}
@@ -24,5 +24,5 @@ invariant-loop-j l = record {
   rest : IsRest l.rows l.rest l.j (length l.rows - 1);
   start : l.start ≡ below l.j;
   pairs : ArePairs l.pairs l.j (rows_ends l.rows);
-  passes : first_open (λ rest. detect_of l.shift rest (ends l.kappa_less)) (take l.j (removals (named l.rows))) ≡ Pass;
+  passes : first_open (λ rest. detect_of l.shift rest (ends l.kappa_less)) (take l.j (removals (named l.rows))) ≡ Available;
 }

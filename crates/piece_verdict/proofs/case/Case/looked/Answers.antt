@@ -4,7 +4,6 @@ use Rattle.std.proofs.lemmas.Int.{ints, to_z-of_z}
 use Rattle.raim_model.specs.declared.almanac.AlmRecord.{AlmRecord}
 use Rattle.raim_model.specs.AlmanacInForce.{in_force}
 use Rattle.raim_model.specs.CaseCuts.{MayBeJudged}
-use Rattle.raim_model.specs.Cuts.{IsCutTime}
 use Rattle.raim_model.specs.Route.{flight_of}
 use Rattle.raim_model.specs.Solution.{Case}
 use Rattle.fix_interval.specs.Ends.{Ends, IsInside}
@@ -21,28 +20,18 @@ use Rattle.piece_verdict.specs.declared.looks.Looks.{Looks}
 use Rattle.piece_verdict.specs.Seen.{looks_with}
 use Rattle.piece_verdict.specs.Looks.{AreLooks}
 use Rattle.piece_verdict.specs.Views.{seen_from, all_seen_from}
+use Rattle.piece_verdict.specs.Here.{IsHere}
 use Rattle.piece_verdict.specs.Hidden.{AreHidden, KnowsHidden}
 use Rattle.piece_verdict.proofs.HiddenLemmas.{known_from, known_over}
-use Rattle.piece_verdict.proofs.TimeLemmas.{case_times, piece_time}
-use Rattle.piece_verdict.proofs.Whole.{seen_whole, force_at, all_applicable, few_records}
+use Rattle.piece_verdict.proofs.Whole.{seen_whole, force_here, all_applicable, few_records}
 use Rattle.piece_verdict.proofs.case.Case.looked.Goals as goal
-
-pub in_force_at-place-requires-clause-t : goal.in_force_at-place-requires-clause-t
-in_force_at-place-requires-clause-t c =
-    let f = c.ranges.first in
-    simp to_z-of_z (piece_time c.args.self.now c.requires.rule.case c.args.first c.args.last c.requires.rule.piece c.requires.ordered)
-
-pub in_force_at-place-requires-clause-times : goal.in_force_at-place-requires-clause-times
-in_force_at-place-requires-clause-times c =
-    let k : Case = case_of c.self.inside.limits c.self.inside.constellations.items c.self.inside.outages.items c.self.inside.route in
-    subst (λ ts. All IsCutTime ts) (c.self.invariant.of_almanacs ∙ sym c.as_slice.ensures.value) (case_times k c.self.invariant.case)
 
 pub sights-requires-clause-few : goal.sights-requires-clause-few
 sights-requires-clause-few c =
     let f = c.ranges.first in
     let k : Case = case_of c.self.inside.limits c.self.inside.constellations.items c.self.inside.outages.items c.self.inside.route in
-    let t = c.self.invariant.of_almanacs ∙ sym c.as_slice.ensures.value in
-    let e : c.satellites.result.now ≡ in_force c.args.first k.almanacs = force_at k c.as_slice.result.now c.in_force_at-place.result c.args.first c.index.result.now c.satellites.result.now t c.in_force_at-place.ensures.within (simp to_z-of_z at (c.in_force_at-place.ensures.exact k.almanacs t)) c.index.ensures c.satellites.ensures in
+    let w : IsHere k c.args.here c.args.first = subst (λ x. IsHere x c.args.here c.args.first) (sym c.self.view_is) c.requires.here in
+    let e : c.satellites.result.now ≡ in_force c.args.first k.almanacs = force_here k c.args.here.almanac c.args.first c.index.result.now c.satellites.result.now w.listed w.serves c.index.ensures c.satellites.ensures in
     few_records k c.self.invariant.case c.satellites.result.now c.args.first e
 
 pub sights-requires-clause-first_applicable : goal.sights-requires-clause-first_applicable
@@ -52,8 +41,8 @@ sights-requires-clause-first_applicable c =
     let p : MayBeJudged k c.args.first c.args.last = subst (λ x. MayBeJudged x c.args.first c.args.last) (sym c.self.view_is) c.requires.rule in
     let o = c.requires.ordered in
     let h : c.args.last <ℤ (flight_of k.route).end = p.piece.not_over in
-    let t = c.self.invariant.of_almanacs ∙ sym c.as_slice.ensures.value in
-    let e : c.satellites.result.now ≡ in_force c.args.first k.almanacs = force_at k c.as_slice.result.now c.in_force_at-place.result c.args.first c.index.result.now c.satellites.result.now t c.in_force_at-place.ensures.within (simp to_z-of_z at (c.in_force_at-place.ensures.exact k.almanacs t)) c.index.ensures c.satellites.ensures in
+    let w : IsHere k c.args.here c.args.first = subst (λ x. IsHere x c.args.here c.args.first) (sym c.self.view_is) c.requires.here in
+    let e : c.satellites.result.now ≡ in_force c.args.first k.almanacs = force_here k c.args.here.almanac c.args.first c.index.result.now c.satellites.result.now w.listed w.serves c.index.ensures c.satellites.ensures in
     simp to_z-of_z (all_applicable k p.case c.satellites.result.now c.args.first c.args.first e p.piece.started (omega (arith, ints)))
 
 pub sights-requires-clause-last_applicable : goal.sights-requires-clause-last_applicable
@@ -64,8 +53,8 @@ sights-requires-clause-last_applicable c =
     let p : MayBeJudged k c.args.first c.args.last = subst (λ x. MayBeJudged x c.args.first c.args.last) (sym c.self.view_is) c.requires.rule in
     let o = c.requires.ordered in
     let s = p.piece.started in
-    let t = c.self.invariant.of_almanacs ∙ sym c.as_slice.ensures.value in
-    let e : c.satellites.result.now ≡ in_force c.args.first k.almanacs = force_at k c.as_slice.result.now c.in_force_at-place.result c.args.first c.index.result.now c.satellites.result.now t c.in_force_at-place.ensures.within (simp to_z-of_z at (c.in_force_at-place.ensures.exact k.almanacs t)) c.index.ensures c.satellites.ensures in
+    let w : IsHere k c.args.here c.args.first = subst (λ x. IsHere x c.args.here c.args.first) (sym c.self.view_is) c.requires.here in
+    let e : c.satellites.result.now ≡ in_force c.args.first k.almanacs = force_here k c.args.here.almanac c.args.first c.index.result.now c.satellites.result.now w.listed w.serves c.index.ensures c.satellites.ensures in
     simp to_z-of_z (all_applicable k p.case c.satellites.result.now c.args.first c.args.last e (omega (arith, ints)) p.piece.not_over)
 
 pub sights-requires-clause-mask : goal.sights-requires-clause-mask
@@ -79,15 +68,15 @@ returns-clause-looks c =
     let F : FrameEnds = frame_ends c.receiver-frame.result in
     let M : Ends = ends c.self.inside.mask in
     let R : List AlmRecord = c.satellites.result.now in
-    let t = c.self.invariant.of_almanacs ∙ sym c.as_slice.ensures.value in
-    let e : R ≡ in_force c.args.first k.almanacs = force_at k c.as_slice.result.now c.in_force_at-place.result c.args.first c.index.result.now R t c.in_force_at-place.ensures.within (simp to_z-of_z at (c.in_force_at-place.ensures.exact k.almanacs t)) c.index.ensures c.satellites.ensures in
+    let w : IsHere k c.args.here c.args.first = subst (λ x. IsHere x c.args.here c.args.first) (sym c.self.view_is) c.requires.here in
+    let e : R ≡ in_force c.args.first k.almanacs = force_here k c.args.here.almanac c.args.first c.index.result.now R w.listed w.serves c.index.ensures c.satellites.ensures in
     let N : ℕ = c.needed-needed.result in
     let W : Looks = looks_with c.sights.result c.sights.new.seen in
-    let h : AreLooks N (all_seen_from F M c.as_slice-3.result.now c.as_slice-2.result.now c.args.first c.args.last R) W = simp to_z-of_z at c.sights.ensures.looks in
+    let h : AreLooks N (all_seen_from F M c.as_slice-2.result.now c.as_slice.result.now c.args.first c.args.last R) W = simp to_z-of_z at c.sights.ensures.looks in
     let r = simp to_z-of_z at c.receiver-frame.ensures.exact in
     let v = subst (λ (x : Case). (rec : AlmRecord) → seen_from F (mask_of x.limits) x.limits.weights.items c.args.first c.args.last rec ≡ sight_over x rec c.args.first c.args.last) (sym c.self.view_is) r in
-    let a = subst (λ os. AreLooks N (all_seen_from F M c.as_slice-3.result.now os c.args.first c.args.last R) W) c.as_slice-2.ensures.value h in
-    let b = subst (λ ws. AreLooks N (all_seen_from F M ws c.self.inside.outages.items c.args.first c.args.last R) W) c.as_slice-3.ensures.value a in
+    let a = subst (λ os. AreLooks N (all_seen_from F M c.as_slice-2.result.now os c.args.first c.args.last R) W) c.as_slice.ensures.value h in
+    let b = subst (λ ws. AreLooks N (all_seen_from F M ws c.self.inside.outages.items c.args.first c.args.last R) W) c.as_slice-2.ensures.value a in
     subst (λ n. AreLooks n (seen_of c.args.self.now c.args.first c.args.last) W) (c.needed-needed.ensures.value ∙ ap (λ (x : Case). least_count x.limits.exclude) c.self.view_is)
     (subst (λ (x : Case). AreLooks N (seen_of x c.args.first c.args.last) W) c.self.view_is
     (subst (λ xs. AreLooks N xs W) (seen_whole k c.args.first c.args.last F M R e c.self.invariant.sine v) b))
@@ -100,12 +89,12 @@ sights-requires-clause-known c =
     let F : FrameEnds = frame_ends c.receiver-frame.result in
     let M : Ends = ends c.self.inside.mask in
     let R : List AlmRecord = c.satellites.result.now in
-    let t = c.self.invariant.of_almanacs ∙ sym c.as_slice.ensures.value in
-    let e : R ≡ in_force c.args.first k.almanacs = force_at k c.as_slice.result.now c.in_force_at-place.result c.args.first c.index.result.now R t c.in_force_at-place.ensures.within (simp to_z-of_z at (c.in_force_at-place.ensures.exact k.almanacs t)) c.index.ensures c.satellites.ensures in
+    let w : IsHere k c.args.here c.args.first = subst (λ x. IsHere x c.args.here c.args.first) (sym c.self.view_is) c.requires.here in
+    let e : R ≡ in_force c.args.first k.almanacs = force_here k c.args.here.almanac c.args.first c.index.result.now R w.listed w.serves c.index.ensures c.satellites.ensures in
     let r = simp to_z-of_z at c.receiver-frame.ensures.exact in
     let v = subst (λ (x : Case). (rec : AlmRecord) → seen_from F (mask_of x.limits) x.limits.weights.items c.args.first c.args.last rec ≡ sight_over x rec c.args.first c.args.last) (sym c.self.view_is) r in
     let h : KnowsHidden k c.args.known.now.places c.args.first c.args.last = subst (λ (x : Case). KnowsHidden x c.args.known.now.places c.args.first c.args.last) (sym c.self.view_is) c.requires.known in
-    simp to_z-of_z (subst (λ ws. AreHidden (seen_from F M ws c.args.first c.args.last) R c.args.known.now.places) (sym c.as_slice-3.ensures.value)
+    simp to_z-of_z (subst (λ ws. AreHidden (seen_from F M ws c.args.first c.args.last) R c.args.known.now.places) (sym c.as_slice-2.ensures.value)
     (known_from k c.args.first c.args.last F M R c.args.known.now.places e c.self.invariant.sine v h))
 
 pub returns-clause-known : goal.returns-clause-known
@@ -116,11 +105,11 @@ returns-clause-known c =
     let F : FrameEnds = frame_ends c.receiver-frame.result in
     let M : Ends = ends c.self.inside.mask in
     let R : List AlmRecord = c.satellites.result.now in
-    let t = c.self.invariant.of_almanacs ∙ sym c.as_slice.ensures.value in
-    let e : R ≡ in_force c.args.first k.almanacs = force_at k c.as_slice.result.now c.in_force_at-place.result c.args.first c.index.result.now R t c.in_force_at-place.ensures.within (simp to_z-of_z at (c.in_force_at-place.ensures.exact k.almanacs t)) c.index.ensures c.satellites.ensures in
+    let w : IsHere k c.args.here c.args.first = subst (λ x. IsHere x c.args.here c.args.first) (sym c.self.view_is) c.requires.here in
+    let e : R ≡ in_force c.args.first k.almanacs = force_here k c.args.here.almanac c.args.first c.index.result.now R w.listed w.serves c.index.ensures c.satellites.ensures in
     let r = simp to_z-of_z at c.receiver-frame.ensures.exact in
     let v = subst (λ (x : Case). (rec : AlmRecord) → seen_from F (mask_of x.limits) x.limits.weights.items c.args.first c.args.last rec ≡ sight_over x rec c.args.first c.args.last) (sym c.self.view_is) r in
-    let h : AreHidden (seen_from F M c.as_slice-3.result.now c.args.first c.args.last) R c.sights.new.known.places = simp to_z-of_z at c.sights.ensures.known in
+    let h : AreHidden (seen_from F M c.as_slice-2.result.now c.args.first c.args.last) R c.sights.new.known.places = simp to_z-of_z at c.sights.ensures.known in
     subst (λ (x : Case). KnowsHidden x c.sights.new.known.places c.args.first c.args.last) c.self.view_is
     (known_over k c.args.first c.args.last F M R c.sights.new.known.places e c.self.invariant.sine v
-    (subst (λ ws. AreHidden (seen_from F M ws c.args.first c.args.last) R c.sights.new.known.places) c.as_slice-3.ensures.value h))
+    (subst (λ ws. AreHidden (seen_from F M ws c.args.first c.args.last) R c.sights.new.known.places) c.as_slice-2.ensures.value h))

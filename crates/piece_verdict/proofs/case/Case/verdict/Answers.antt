@@ -45,8 +45,7 @@ returns-in-Rows-clause-value c =
     let f = c.ranges.first in
     let l = c.ranges.last in
     let h = subst (λ r. AreLooks (least_count c.args.self.now.limits.exclude) (seen_of c.args.self.now c.args.first c.args.last) (looks_with r c.looked.new.seen)) c.in-Rows.is (simp to_z-of_z at c.looked.ensures.looks) in
-    c.given.ensures
-    ∙ is_tested c.args.alert c.args.self.now c.args.first c.args.last (named c.looked.new.seen.rows.items) c.test.result h.0 h.1 h.2
+    is_tested c.args.alert c.args.self.now c.args.first c.args.last (named c.looked.new.seen.rows.items) c.test.result h.0 h.1 h.2
     (c.test.ensures.value ∙ ap (λ (x : Case). test_by (slopes_for (shift_of c.args.alert)) x.limits (limit_for c.args.alert x.limits) (named c.as_slice.result.now)) c.self.view_is ∙ ap (λ rs. test_by (slopes_for (shift_of c.args.alert)) c.args.self.now.limits (limit_for c.args.alert c.args.self.now.limits) (named rs)) c.as_slice.ensures.value)
 
 -- the rows that are kept are those that are seen
@@ -74,6 +73,7 @@ returns-in-Rows-clause-known c =
     let l = c.ranges.last in
     let h = subst (λ r. AreLooks (least_count c.args.self.now.limits.exclude) (seen_of c.args.self.now c.args.first c.args.last) (looks_with r c.looked.new.seen)) c.in-Rows.is (simp to_z-of_z at c.looked.ensures.looks) in
     record {
+      here = simp to_z-of_z at c.here-here.ensures;
       hidden = simp to_z-of_z at c.looked.ensures.known;
       slopes = slopes_known c.args.alert c.args.self.now c.args.first c.args.last c.looked.new.seen.rows.items c.test.new.slopes.places h.1 h.2
           (subst (λ (x : Case). SlopesPass (shift_of c.args.alert) (named c.looked.new.seen.rows.items) (kappa_over x.limits (limit_for c.args.alert x.limits) (length c.looked.new.seen.rows.items)) c.test.new.slopes.places) c.self.view_is
@@ -81,4 +81,26 @@ returns-in-Rows-clause-known c =
       lists = lists_known c.args.alert c.args.self.now c.args.first c.args.last c.looked.new.seen.rows.items c.test.new.lists.places h.1 h.2
           (subst (λ (x : Case). ListsPass (shift_of c.args.alert) (named c.looked.new.seen.rows.items) (kappa_over x.limits (limit_for c.args.alert x.limits) (length c.looked.new.seen.rows.items - 1)) c.test.new.lists.places) c.self.view_is
           (subst (λ (rs : List Row). ListsPass (shift_of c.args.alert) (named rs) (kappa_over c.self.inside.limits (limit_for c.args.alert c.self.inside.limits) (length rs - 1)) c.test.new.lists.places) c.as_slice.ensures.value c.test.ensures.lists));
+    }
+
+pub returns-in-Few-clause-known : goal.returns-in-Few-clause-known
+returns-in-Few-clause-known c =
+    let f = c.ranges.first in
+    let l = c.ranges.last in
+    record {
+      here = simp to_z-of_z at c.here-here.ensures;
+      hidden = simp to_z-of_z at c.looked.ensures.known;
+      slopes = c.requires.known.slopes;
+      lists = c.requires.known.lists;
+    }
+
+pub returns-in-Straddle-clause-known : goal.returns-in-Straddle-clause-known
+returns-in-Straddle-clause-known c =
+    let f = c.ranges.first in
+    let l = c.ranges.last in
+    record {
+      here = simp to_z-of_z at c.here-here.ensures;
+      hidden = simp to_z-of_z at c.looked.ensures.known;
+      slopes = c.requires.known.slopes;
+      lists = c.requires.known.lists;
     }
