@@ -1,0 +1,4 @@
+pub mod Fits
+pub mod Steps
+pub mod Turned
+pub mod EccentricPairs
