@@ -1,4 +1,4 @@
-//! Tests of whole numbers, intervals and time forms: tables that `oracle/` works out in whole numbers of any size.
+//! Tests of whole numbers, intervals, time forms and their matrices: tables that `oracle/` works out in whole numbers of any size.
 #![tactic(auto)]
 
 #[cfg(test)]
@@ -7,5 +7,7 @@ mod form_table;
 mod interval_table;
 #[cfg(test)]
 mod intervals;
+#[cfg(test)]
+mod matrices;
 #[cfg(test)]
 mod rounding;

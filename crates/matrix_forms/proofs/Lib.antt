@@ -1,0 +1,4 @@
+pub mod Shorts
+pub mod Bounds
+pub mod Rows
+pub mod RowSums

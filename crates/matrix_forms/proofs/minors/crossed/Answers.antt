@@ -1,0 +1,18 @@
+use Rattle.std.proofs.Common.{ap, ap₂, ◌∙◌}
+use Rattle.time_forms.specs.Operations.{sub_form, narrow_form}
+use Rattle.time_forms.specs.Programs.{short_of}
+use Rattle.geometry_forms.specs.Geometry.{crossed_form}
+use Rattle.matrix_forms.proofs.Shorts.{short_is, short_some}
+use Rattle.matrix_forms.proofs.minors.crossed.Goals as goal
+
+pub returns-clause-exact : goal.returns-clause-exact
+unfolding crossed_form
+returns-clause-exact c =
+    let e = c.sub_wide.ensures.exact ∙ ap₂ sub_form c.product.ensures.exact c.product-2.ensures.exact in
+    short_is c.narrow.result _ (c.narrow.ensures.exact ∙ ap (λ w. short_of (narrow_form w)) e)
+
+pub returns-clause-some : goal.returns-clause-some
+unfolding crossed_form
+returns-clause-some c =
+    let e = c.sub_wide.ensures.exact ∙ ap₂ sub_form c.product.ensures.exact c.product-2.ensures.exact in
+    short_some c.narrow.result _ (c.narrow.ensures.exact ∙ ap (λ w. short_of (narrow_form w)) e)

@@ -1,0 +1,4 @@
+pub mod Views
+pub mod Shorts
+pub mod Lines
+pub mod Sums
