@@ -6,8 +6,6 @@ mod laws;
 mod reader;
 mod section;
 mod taker;
-#[cfg(test)]
-mod tests;
 
 pub use choice::Choice;
 pub use laws::a_file_has_one_reading;

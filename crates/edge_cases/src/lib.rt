@@ -4,6 +4,10 @@
 #[cfg(test)]
 mod charts;
 #[cfg(test)]
+mod demonstrations;
+#[cfg(test)]
+mod desks;
+#[cfg(test)]
 mod ends;
 #[cfg(test)]
 mod faults;
@@ -21,6 +25,8 @@ mod over;
 mod pages;
 #[cfg(test)]
 mod refusals;
+#[cfg(test)]
+mod requests;
 #[cfg(test)]
 mod sizes;
 #[cfg(test)]

@@ -6,8 +6,6 @@ mod laws;
 mod line;
 mod printing;
 mod reading;
-#[cfg(test)]
-mod tests;
 mod verdict_form;
 mod verdict_text;
 

@@ -2,7 +2,7 @@ use Rattle.std.proofs.Common.{rules}
 use Rattle.raim_model.specs.declared.verdict.Why.TheVariants.{Few}
 use Rattle.raim_model.specs.declared.verdict.Verdict.TheVariants.{Unavailable}
 use Rattle.raim_model.specs.Runs.{IsOverflow}
-use Rattle.report_text.proofs.tests.first_second.Goals as goal
+use Rattle.text_cases.proofs.reports.first_second.Goals as goal
 
 calm : ¬ IsOverflow (Unavailable Few)
 calm o = let e = o.1 in cc

@@ -3,8 +3,8 @@ ghost use Rattle.report_text.specs.Report.{IsPrintable};
 
 mod tables;
 
-use super::*;
 use raim_model::{Refusal, Run, TextFault, TextWhy, Verdict, Why};
+use report_text::{print_report, read_report};
 use std::alloc::Global;
 use std::process::Abort;
 use std::test::Fail;

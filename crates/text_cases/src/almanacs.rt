@@ -1,7 +1,7 @@
 // Files of almanacs, and where they are refused.
 ghost use Rattle.std.specs.Prelude.{◌<◌};
 
-use super::*;
+use alm_reader::AlmanacReader;
 use raim_base::{MemDesk, feed_lines};
 use raim_model::{FileNo, LATEST_MS, Span, TextFault, TextWhy};
 use sem_text::SemReader;
