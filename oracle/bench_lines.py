@@ -86,7 +86,7 @@ def place(i):
 
 
 # the numbers of the verdicts on a list of rows, and of what it is undecided by
-VERDICTS = {("Pass",): 1, ("Fail", "Few"): 2, ("Fail", "Singular"): 3, ("Fail", "Slope"): 4}
+VERDICTS = {("Available",): 1, ("Unavailable", "Few"): 2, ("Unavailable", "Singular"): 3, ("Unavailable", "Slope"): 4}
 UNDECIDED = {"Mask": 5, "Det": 6, "Slope": 7, "DetWithout": 8, "SlopeWithout": 9}
 OVERFLOW = 10
 

@@ -1,8 +1,8 @@
 #!/usr/bin/env python3
-"""Prints `crates/demo_texts/src/tests/tables.rt`: the four texts of the demonstration with number 0, made from the rules of docs/FORMATS.md,
+"""Prints `crates/edge_cases/src/demonstrations/tables.rt`: the four texts of the demonstration with number 0, made from the rules of docs/FORMATS.md,
 in fractions.
 
-Usage: python3 oracle/demo_texts.py > crates/demo_texts/src/tests/tables.rt
+Usage: python3 oracle/demo_texts.py > crates/edge_cases/src/demonstrations/tables.rt
 """
 from fractions import Fraction
 

@@ -90,39 +90,39 @@ def slope(rows, i, d, adj, kappa, vertical):
 
 
 def detect(rows, kappa, vertical=False):
-    """The test of a list of rows, in rising PRN: a tuple whose first word is Pass, Fail, Straddle or Overflow."""
+    """The test of a list of rows, in rising PRN: a tuple whose first word is Available, Unavailable, Undecided or Overflow."""
     if len(rows) < 5:
-        return "Fail", "Few"
+        return "Unavailable", "Few"
     h = gram(rows)
     d = determinant(h)
     if d[1] < LEAST_DETERMINANT:
-        return "Fail", "Singular"
+        return "Unavailable", "Singular"
     if d[0] < LEAST_DETERMINANT:
-        return "Straddle", "Det"
+        return "Undecided", "Det"
     adj = adjugate(h)
     outcomes = [slope(rows, i, d, adj, kappa, vertical) for i in range(len(rows))]
     if "overflow" in outcomes:
         return "Overflow", rows[outcomes.index("overflow")][0]
     if "fail" in outcomes:
-        return "Fail", "Slope"
+        return "Unavailable", "Slope"
     if "straddle" in outcomes:
-        return "Straddle", "Slope", rows[outcomes.index("straddle")][0]
-    return ("Pass",)
+        return "Undecided", "Slope", rows[outcomes.index("straddle")][0]
+    return ("Available",)
 
 
 def exclude(rows, kappa, kappa_less, vertical=False):
     """The test of a list of rows and of each list without one, by rising PRN of the one removed."""
     if len(rows) < 6:
-        return "Fail", "Few"
+        return "Unavailable", "Few"
     whole = detect(rows, kappa, vertical)
-    if whole != ("Pass",):
+    if whole != ("Available",):
         return whole
     for j, row in enumerate(rows):
         verdict = detect(rows[:j] + rows[j + 1:], kappa_less, vertical)
-        if verdict[:2] == ("Straddle", "Det"):
-            return "Straddle", "DetWithout", row[0]
-        if verdict[:2] == ("Straddle", "Slope"):
-            return "Straddle", "SlopeWithout", row[0], verdict[2]
-        if verdict != ("Pass",):
+        if verdict[:2] == ("Undecided", "Det"):
+            return "Undecided", "DetWithout", row[0]
+        if verdict[:2] == ("Undecided", "Slope"):
+            return "Undecided", "SlopeWithout", row[0], verdict[2]
+        if verdict != ("Available",):
             return verdict
-    return ("Pass",)
+    return ("Available",)

@@ -1,9 +1,9 @@
 #!/usr/bin/env python3
-"""Prints `crates/notice_book/src/tests/books.rt`: books of notices, with the answer to each notice and the outages in effect at the end.
+"""Prints `crates/book_cases/src/book_rows.rt`: books of notices, with the answer to each notice and the outages in effect at the end.
 Both are worked out here from the rule for a whole list of notices, and from no entry that is kept: an Add is in effect where no Cancel of
 the list names it, at the times of the Reschedule of greatest number that names it.
 
-Usage: python3 oracle/table_of_books.py > crates/notice_book/src/tests/books.rt
+Usage: python3 oracle/table_of_books.py > crates/book_cases/src/book_rows.rt
 """
 # Milliseconds that the letters of a row stand for: the first and the last of UTC that a notice may have, and six minutes of a day.
 TIMES = {"A": 0, "B": 1_414_022_400_000, "C": 1_414_022_460_000, "D": 1_414_022_520_000, "E": 1_414_022_580_000, "F": 1_414_022_640_000, "G": 1_414_022_700_000, "Z": 253_086_335_999_999}

@@ -1,8 +1,8 @@
 #!/usr/bin/env python3
-"""Prints `crates/chart_text/src/tests/tables.rt`: texts for a chart, with what they show or the line and the cause of their
+"""Prints `crates/text_cases/src/charts/tables.rt`: texts for a chart, with what they show or the line and the cause of their
 refusal. They are read here by a pattern and the calendar of Python.
 
-Usage: python3 oracle/table_of_charts.py > crates/chart_text/src/tests/tables.rt
+Usage: python3 oracle/table_of_charts.py > crates/text_cases/src/charts/tables.rt
 """
 import re
 

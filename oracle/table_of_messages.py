@@ -1,9 +1,9 @@
 #!/usr/bin/env python3
-"""Prints `crates/nanu_text/src/tests/messages.rt`: messages with one line changed, and files of messages, each with what a run of it says.
+"""Prints `crates/book_cases/src/message_rows.rt`: messages with one line changed, and files of messages, each with what a run of it says.
 The texts are read here by the tables of the format, and times by Python's own calendar; what a book says of notices comes from
 `table_of_books.py`, the rule for a whole list of notices.
 
-Usage: python3 oracle/table_of_messages.py > crates/nanu_text/src/tests/messages.rt
+Usage: python3 oracle/table_of_messages.py > crates/book_cases/src/message_rows.rt
 """
 import datetime
 import random

@@ -1,8 +1,8 @@
 #!/usr/bin/env python3
-"""Prints `crates/report_text/src/tests/tables.rt`: reports, and texts that differ from them, with the runs that they say or the line and
+"""Prints `crates/text_cases/src/reports/tables.rt`: reports, and texts that differ from them, with the runs that they say or the line and
 the cause of their refusal. They are read here from the rules of docs/FORMATS.md, by a pattern and the calendar of Python.
 
-Usage: python3 oracle/table_of_reports.py > crates/report_text/src/tests/tables.rt
+Usage: python3 oracle/table_of_reports.py > crates/text_cases/src/reports/tables.rt
 """
 import re
 

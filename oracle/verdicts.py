@@ -111,8 +111,7 @@ def verdict(case, first, last, vertical_mm=None):
     rows = weighed_rows(case, sights)
     n, vertical = len(rows), vertical_mm is not None
     held = replace(limits, alert=vertical_mm) if vertical else limits
-    answer = exclude(rows, kappa(held, n), kappa(held, n - 1), vertical) if limits.exclude else detect(rows, kappa(held, n), vertical)
-    return {"Pass": ("Available",), "Fail": ("Unavailable",), "Straddle": ("Undecided",), "Overflow": ("Overflow",)}[answer[0]] + answer[1:]
+    return exclude(rows, kappa(held, n), kappa(held, n - 1), vertical) if limits.exclude else detect(rows, kappa(held, n), vertical)
 
 
 def cuts(case):

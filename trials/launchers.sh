@@ -13,35 +13,35 @@ checkout() {
     rm -rf -- "$room/house" "$room/made" "$room/temporary"
     mkdir -p "$room/house/crates" "$room/made" "$room/temporary"
     chmod 777 "$room/temporary"
-    cp "$top/launch.sh" "$top/raim" "$top/raim_vert" "$top/raim_fleet" "$top/raim_chart" "$top/notice" "$top/crates.txt" "$room/house/"
+    cp "$top/launch.sh" "$top/raim" "$top/raim_vert" "$top/raim_fleet" "$top/raim_chart" "$top/notice" "$top/crates.txt" "$top/HANDLES" "$room/house/"
     sed 's/#.*//; s/:.*//; /^ *$/d' "$top/crates.txt" | while read -r crate; do
-        mkdir -p "$room/house/crates/$crate/src"
+        mkdir -p "$room/house/crates/$crate/src" "$room/house/crates/$crate/must-fail" "$room/house/crates/$crate/out"
         echo "// $crate" >"$room/house/crates/$crate/src/lib.rt"
+        echo "an edit" >"$room/house/crates/$crate/must-fail/wrong.edit"
+        echo "made before" >"$room/house/crates/$crate/out/made"
     done
 }
 
-# A made `rt`: `all check` says three crates and does as $1 says; `run` makes a program that prints its words.
+# A made `rt`: `ci` says three crates and does as $1 says: in the end it makes a program that prints its words.
 make_rt() {
     cat >"$room/made/rt" <<END
 #!/bin/sh
 echo "\$*" >>"$room/calls"
-case \$1 in
-all)
-    printf '== whole_numbers\nsaid of it\n== fractions\n== raim_model\n'
-    case $1 in
-    fails) echo "rt: the third is not proved"; exit 1 ;;
-    sleeps) sleep 5 ;;
-    esac
-    echo '== summary' ;;
-run)
-    case $1 in
-    builds_nothing) exit 1 ;;
-    esac
-    here=\$(basename "\$PWD")
-    mkdir -p out
-    printf '#!/bin/sh\necho "ran \$*"\n' >"out/\$here"
-    chmod 755 "out/\$here" ;;
+find . | sort >"$room/given"
+[ "\$*" = ci ] || exit 1
+printf '== whole_numbers\nsaid of it\nrt: whole_numbers proved\nrt: fractions is kept: an earlier run proved it\nrt: raim_model proved\n'
+case $1 in
+fails) echo "rt: the third is not proved"; exit 1 ;;
+sleeps) sleep 5 ;;
+builds_nothing) exit 0 ;;
+takes_long) touch "$room/house/crates/raim_run/src/lib.rt" ;;
 esac
+for crate in crates/*_cli; do
+    name=\$(basename "\$crate")
+    mkdir -p "\$crate/out"
+    printf '#!/bin/sh\necho "ran \$*"\n' >"\$crate/out/\$name"
+    chmod 755 "\$crate/out/\$name"
+done
 END
     chmod 755 "$room/made/rt"
     rm -f "$room/calls"
@@ -67,6 +67,8 @@ holds() {
 }
 
 says() { grep -q -- "$1" "$room/note"; }
+given() { grep -qx -- "$1" "$room/given"; }
+not_given() { ! grep -q -- "$1" "$room/given"; }
 printed() { [ "$(cat "$room/output")" = "$1" ]; }
 ended() { [ "$status" -eq "$1" ]; }
 is_empty() { [ -z "$(ls -A "$1")" ]; }
@@ -79,6 +81,12 @@ for name in raim raim_vert raim_fleet raim_chart notice; do
     holds "$name gets its words" printed 'ran a b c'
     holds "$name says how far it is" says "^$name: proving 2 of [0-9]*: fractions\$"
     holds "$name leaves no temporary file" is_empty "$room/temporary"
+    holds "$name leaves its program alone" [ "$(ls "$room/house/crates/${name}_cli/out" | tr '\n' ' ')" = "made ${name}_cli " ]
+    holds "$name is built of its crates" given "./crates/raim_base/src/lib.rt"
+    holds "$name is built of no other program" not_given "_cli_"
+    holds "$name is built under the handles" given './HANDLES'
+    holds "$name is built without wrong bodies" not_given must-fail
+    holds "$name is built from nothing made before" not_given '/out$'
     rm "$room/calls"
     start "$room/house/$name" again
     holds "$name is not built again" [ ! -e "$room/calls" ]
@@ -114,6 +122,13 @@ holds "a failed build leaves no temporary file" is_empty "$room/temporary"
 make_rt builds_nothing
 start "$room/house/raim"
 holds "a build without a program ends with 70" ended 70
+
+checkout
+make_rt takes_long
+start "$room/house/raim"
+rm "$room/calls"
+start "$room/house/raim"
+holds "what changes during a build is built again" [ -e "$room/calls" ]
 
 checkout
 rm -f "$room/made/rt"

@@ -7,8 +7,7 @@ use crate::sums::scattered;
 use exclusion_subsets::exclude;
 use fix_interval::{Iv, UNITS_IN_ONE};
 use geom_inverse::Row;
-use raim_model::{Cmp, Why};
-use slope_laws::SubsetVerdict;
+use raim_model::{Cmp, Verdict, Why};
 use slope_test::detect;
 
 /// A part of the direction of the satellite `prn`, from -1 to 1 and at most three units wide.
@@ -64,20 +63,20 @@ fn onto(before: u64, number: u8) -> u64 {
 }
 
 /// The sum with a verdict: the number of its kind, and the satellites that it names.
-fn onto_verdict(before: u64, verdict: SubsetVerdict) -> u64 {
+fn onto_verdict(before: u64, verdict: Verdict) -> u64 {
     match verdict {
-        SubsetVerdict::Pass => onto(before, 1),
-        SubsetVerdict::Fail(Why::Few) => onto(before, 2),
-        SubsetVerdict::Fail(Why::Singular) => onto(before, 3),
-        SubsetVerdict::Fail(Why::Slope) => onto(before, 4),
-        SubsetVerdict::Straddle(Cmp::Mask(prn)) => onto(onto(before, 5), prn),
-        SubsetVerdict::Straddle(Cmp::Det) => onto(before, 6),
-        SubsetVerdict::Straddle(Cmp::Slope(prn)) => onto(onto(before, 7), prn),
-        SubsetVerdict::Straddle(Cmp::DetWithout(prn)) => onto(onto(before, 8), prn),
-        SubsetVerdict::Straddle(Cmp::SlopeWithout(removed, prn)) => {
+        Verdict::Available => onto(before, 1),
+        Verdict::Unavailable(Why::Few) => onto(before, 2),
+        Verdict::Unavailable(Why::Singular) => onto(before, 3),
+        Verdict::Unavailable(Why::Slope) => onto(before, 4),
+        Verdict::Undecided(Cmp::Mask(prn)) => onto(onto(before, 5), prn),
+        Verdict::Undecided(Cmp::Det) => onto(before, 6),
+        Verdict::Undecided(Cmp::Slope(prn)) => onto(onto(before, 7), prn),
+        Verdict::Undecided(Cmp::DetWithout(prn)) => onto(onto(before, 8), prn),
+        Verdict::Undecided(Cmp::SlopeWithout(removed, prn)) => {
             onto(onto(onto(before, 9), removed), prn)
         }
-        SubsetVerdict::Overflow(prn) => onto(onto(before, 10), prn),
+        Verdict::Overflow(prn) => onto(onto(before, 10), prn),
     }
 }
 

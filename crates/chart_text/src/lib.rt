@@ -9,8 +9,6 @@ mod laws;
 mod reading;
 mod reason;
 mod refusal;
-#[cfg(test)]
-mod tests;
 
 pub use laws::{a_chart_text_has_one_reading, what_a_fleet_prints_is_read};
 pub use reading::read_chart;

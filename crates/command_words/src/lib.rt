@@ -7,8 +7,6 @@ mod laws;
 mod prediction;
 mod program;
 mod request;
-#[cfg(test)]
-mod tests;
 mod vertical;
 mod words;
 

@@ -5,8 +5,6 @@ mod almanac;
 mod files;
 mod laws;
 mod summary;
-#[cfg(test)]
-mod tests;
 
 pub use files::{DemoFiles, demo_files};
 pub use laws::milliseconds_add_up;

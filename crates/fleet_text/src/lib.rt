@@ -3,8 +3,6 @@
 
 mod head;
 mod route;
-#[cfg(test)]
-mod tests;
 
 pub use head::push_head;
 pub use route::{excess_separator, split_route};

@@ -5,8 +5,6 @@ mod field;
 mod laws;
 mod line;
 mod reader;
-#[cfg(test)]
-mod tests;
 
 pub use laws::{an_almanac_has_one_reading, an_almanac_means_its_records};
 pub use line::SemLine;
