@@ -6,13 +6,15 @@ use notice_process::run_words;
 use raim_base::StdSink;
 use std::{env, fs, io};
 
-// The words of a line, which single blanks part, with the program's name before them.
+// The words of a line, which blanks part, with the program's name before them: of an empty line that name alone.
 fn words_of(rt: &HostRuntime, line: &str) -> io::Result<Vec<String>> {
     let alloc = rt.alloc();
     let mut words = Vec::new(alloc);
     words.push(String::from_str(alloc, "notice")?)?;
     for word in line.split(' ') {
-        words.push(String::from_str(alloc, word)?)?;
+        if !word.is_empty() {
+            words.push(String::from_str(alloc, word)?)?;
+        }
     }
     Ok(words)
 }
