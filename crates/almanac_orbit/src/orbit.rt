@@ -6,6 +6,7 @@ ghost use Rattle.raim_model.specs.Level.{Level};
 ghost use Rattle.raim_model.specs.Orbit.{OrbitSolution, satellite_position};
 ghost use Rattle.orbit_laws.specs.Positions.{position_of};
 ghost use Rattle.fix_interval.specs.Vectors.{VectorLies, VectorInside, VectorBelow, VectorNarrow, vector_ends};
+ghost use Rattle.almanac_orbit.specs.Kept.{IsKept};
 
 use crate::angles::{EARTH_RATE, rate, turns};
 use crate::elements::{in_turns, motion, semi_major_axis, semi_minor_axis, turned};
@@ -63,6 +64,22 @@ pub fn prepare(rec: &AlmRecord) -> Orbit
             turned: turned(rec.toa_ms),
         },
     }
+}
+
+/// The elements of an orbit, for those who find its place in another way.
+#[inline(always)]
+pub fn orbit_elements(orbit: &Orbit) -> &Kept
+    ensures { IsKept orbit.now result.now }
+{
+    &orbit.kept
+}
+
+/// The millisecond at which its record holds.
+#[inline(always)]
+pub fn time_of_applicability(orbit: &Orbit) -> i64
+    ensures { result ≡ orbit.now.toa_ms }
+{
+    orbit.of.toa_ms
 }
 
 /// Where the satellite is from the millisecond `first` to `last`: its place in megametres, in axes that turn with the
