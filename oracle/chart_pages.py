@@ -1,9 +1,9 @@
 #!/usr/bin/env python3
-"""Prints `crates/edge_cases/src/pages.rt`: the pages of charts, made from the written rules of crates/report_chart/README.md by the
-calendar of Python, fractions and lists of lines.
+"""The pages of charts, made from the written rules of crates/report_chart/README.md by the calendar of Python, fractions and lists of
+lines.
 
-Usage: python3 oracle/chart_pages.py > crates/edge_cases/src/pages.rt
-       python3 oracle/chart_pages.py page REPORT.. > PAGE.html     (of one report a flight's page, of several that of a fleet)
+Usage: python3 oracle/chart_pages.py REPORT.. > PAGE.html     (of one report a flight's page, of several that of a fleet)
+       python3 oracle/chart_pages.py many                     (how many bytes the page of the most runs has)
 """
 import sys
 from datetime import datetime, timedelta, timezone
@@ -197,64 +197,15 @@ def flight_of(report):
     return [run_of(line) for line in report.splitlines()]
 
 
-ONE_RUN = "2024-10-27T00:00:00.000Z 2024-10-27T00:10:00.001Z Available\n"
-
-# over midnight, all kinds and reasons; two are the longest that are not Available
-NIGHT = """\
-2024-10-27T22:30:00.000Z 2024-10-28T00:00:00.000Z Available
-2024-10-28T00:00:00.000Z 2024-10-28T00:00:00.001Z Undecided Mask 07
-2024-10-28T00:00:00.001Z 2024-10-28T00:20:00.000Z Unavailable Few
-2024-10-28T00:20:00.000Z 2024-10-28T00:20:00.250Z Undecided Det
-2024-10-28T00:20:00.250Z 2024-10-28T01:00:00.250Z Unavailable Singular
-2024-10-28T01:00:00.250Z 2024-10-28T01:00:01.000Z Undecided Slope 10
-2024-10-28T01:00:01.000Z 2024-10-28T01:40:01.000Z Unavailable Slope
-2024-10-28T01:40:01.000Z 2024-10-28T01:59:59.999Z Undecided DetWithout 32
-2024-10-28T01:59:59.999Z 2024-10-28T02:00:00.000Z Undecided SlopeWithout 09 31
-2024-10-28T02:00:00.000Z 2024-10-28T13:45:00.000Z Available
-"""
-
-# a whole day, of which no millisecond is Available and none undecided
-DAY = "1980-01-06T00:00:00.000Z 1980-01-07T00:00:00.000Z Unavailable Slope\n"
-
-REASON = b'refused limits line 7: <b>&"x" is > 5\xff\t~\x7f'
-
-
-def literal(text):
-    """A byte string of Rust on lines of its own."""
-    return 'b"' + text.replace("\\", "\\\\").replace('"', '\\"') + '"'
-
-
-def bytes_literal(line):
-    return 'b"' + "".join("\\" + chr(b) if chr(b) in '\\"' else chr(b) if 32 <= b < 127 else f"\\x{b:02x}" for b in line) + '"'
-
-
-def item(says, name, value):
-    return f"// {says}\npub fn {name}() -> &'static [u8] {{\n    {value}\n}}\n"
-
-
-def tables():
-    body = lambda lines: literal("".join(line + "\n" for line in lines))
-    fleet = [flight_of(ONE_RUN), REASON, flight_of(DAY)]
-    items = [
-        item("What each page begins with.", "head", literal(HEAD + STYLE + LEGEND)),
-        item("A report of one run.", "one_run", literal(ONE_RUN)),
-        item("The page of its flight, behind the head.", "page_of_one_run", body(flight_lines(flight_of(ONE_RUN)))),
-        item("A report of all kinds and reasons, over midnight.", "night", literal(NIGHT)),
-        item("The page of its flight, behind the head.", "page_of_night", body(flight_lines(flight_of(NIGHT)))),
-        item("The page of a flight without runs, behind the head.", "page_of_none", body(flight_lines([]))),
-        item("A report of a whole day that is unavailable.", "day", literal(DAY)),
-        item("A line that says why a route has no runs.", "reason", bytes_literal(REASON)),
-        item("The page of the first flight, that line and that day, behind the head.", "page_of_fleet", body(fleet_lines(fleet))),
-    ]
-    many = [(1318 * k, 1318 * (k + 1), "Undecided SlopeWithout 10 31") for k in range(65536)]
-    items.append(f"// How many bytes the page of the report of many runs has.\npub fn length_of_many() -> usize {{\n    {len(page(flight_lines(many)))}\n}}\n")
-    return "// Reports and the pages of their charts, made by `oracle/chart_pages.py`, which makes them by itself.\n\n" + "\n".join(items)
+def length_of_many():
+    """The length of the page of as many runs as a flight may have, none of them Available, with the longest reason."""
+    return len(page(flight_lines([(1318 * k, 1318 * (k + 1), "Undecided SlopeWithout 10 31") for k in range(65536)])))
 
 
 if __name__ == "__main__":
-    if sys.argv[1:2] == ["page"]:
-        flights = [flight_of(open(name).read()) for name in sys.argv[2:]]
+    if sys.argv[1:2] == ["many"]:
+        print(length_of_many())
+    else:
+        flights = [flight_of(open(name).read()) for name in sys.argv[1:]]
         lines = flight_lines(flights[0]) if len(flights) == 1 else fleet_lines(flights)
         sys.stdout.write(page(lines))
-    else:
-        sys.stdout.write(tables())

@@ -1,5 +1,5 @@
 #!/usr/bin/env python3
-"""Prints the cuts and the runs of the flights of `crates/verdict_cases/src/tests`, worked out by `verdicts.py`. Of flights up to a
+"""Prints the cuts and the runs of the flights of `crates/raim_sequence`, worked out by `verdicts.py`. Of flights up to a
 second each millisecond is judged by itself; of longer ones a verdict that is decided over a whole piece is that of its milliseconds,
 and any other piece is halved. It takes some minutes.
 

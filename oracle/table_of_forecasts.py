@@ -1,5 +1,5 @@
 #!/usr/bin/env python3
-"""Prints what `crates/edge_cases/src/forecasts.rt` expects, as `table_of_flights.py` works it out: of a second at one place on the
+"""Prints what the stored run of `crates/raim_sequence` expects under 18 leap seconds, as `table_of_flights.py` works it out: of a second at one place on the
 equator, from the begin of a week of UTC on, the runs and the report under an outage, the verdict of the first millisecond where
 a slope overflows, and the horizontal and the vertical runs under alert limits of a millimetre and of a kilometre.
 

@@ -1,5 +1,5 @@
 #!/usr/bin/env python3
-"""Prints what `crates/edge_cases/src/verticals.rt` expects of the vertical verdicts of a second at one place on the equator, under several
+"""Prints what the stored run of `crates/raim_sequence` expects of the vertical verdicts of a second at one place on the equator, under several
 vertical alert limits, each millisecond judged by itself by `verdicts.py`; and the horizontal verdicts, which differ.
 
 Usage: python3 oracle/table_of_vertical_runs.py

@@ -11,13 +11,15 @@ It is skipped where there is no Chromium (Debian's package `chromium`).
 import html.parser
 import json
 import pathlib
+import re
 import shutil
 import subprocess
 import sys
 import tempfile
 
 HERE = pathlib.Path(__file__).resolve().parent.parent
-STORED = {"raim_chart_cli": "fleet", "raim_chart_cli_flight": "report", "raim_chart_cli_outage": "report"}
+SEQUENCE = HERE / "crates" / "raim_sequence"
+NAMED = ["new-york-london.report", "three-tenths.report"]
 WIDTHS = (400, 1600)
 # Bars are laid out in fractions of a pixel.
 NEAR = 0.02
@@ -66,7 +68,7 @@ def chromium(*words):
 def shown(page, folder, width):
     """What the browser makes of a page at a width. A window of its own is never narrower than 500 pixels, so the page stands in a frame."""
     probed = folder / "probed.html"
-    probed.write_text(page.read_text() + PROBE)
+    probed.write_text(page + PROBE)
     frame = folder / "frame.html"
     frame.write_text('<!DOCTYPE html><body style="margin:0"><iframe src="probed.html" style="border:0;width:%dpx;height:3000px"></iframe>'
                      '<script>window.addEventListener("load",()=>setTimeout(()=>{const p=document.createElement("pre");p.id="said";'
@@ -90,9 +92,21 @@ def flights_of(text):
     return [flight for flight in flights if flight]
 
 
-def look(crate, file, folder, width):
-    flights = flights_of((HERE / "crates" / crate / "data" / file).read_text())
-    seen = shown(HERE / "crates" / crate / "stdout", folder, width)
+def stored():
+    """The stored pages that are looked at: a name, what is drawn, and the page."""
+    fleet = HERE / "crates" / "raim_chart_cli"
+    yield "fleet", (fleet / "data" / "fleet").read_text(), (fleet / "stdout").read_text()
+    lines = [line.split() for line in (SEQUENCE / "data" / "commands").read_text().splitlines()]
+    drawn = [words[1] for words in lines if words[:1] == ["raim_chart"] and len(words) == 2]
+    pages = re.findall(r"^<!DOCTYPE html>.*?(?=^status 0$)", (SEQUENCE / "stdout").read_text(), re.S | re.M)
+    for name, page in zip(drawn, pages):
+        if name in NAMED:
+            yield name, (SEQUENCE / "data" / name).read_text(), page
+
+
+def look(name, text, page, folder, width):
+    flights = flights_of(text)
+    seen = shown(page, folder, width)
     assert [len(band["bars"]) for band in seen["bands"]] == [len(flight) for flight in flights], "bars"
     gaps = [sum(verdict != "Available" for verdict in flight) for flight in flights]
     assert seen["rows"] == [count for count in gaps if count], "rows"
@@ -104,15 +118,15 @@ def look(crate, file, folder, width):
         starts = [bar[0] for bar in band["bars"]]
         assert starts == sorted(starts), "order"
     assert seen["wide"] <= seen["window"] == width, "wider than the window"
-    print("%s at %d: %d bands, %d bars, %d rows" % (crate, width, len(flights), sum(map(len, flights)), sum(gaps)))
+    print("%s at %d: %d bands, %d bars, %d rows" % (name, width, len(flights), sum(map(len, flights)), sum(gaps)))
 
 
-def picture(crate, folder, width):
-    page = folder / (crate + ".html")
-    shutil.copyfile(HERE / "crates" / crate / "stdout", page)
+def picture(name, page, folder, width):
+    file = folder / (name + ".html")
+    file.write_text(page)
     frame = folder / "picture.html"
-    frame.write_text('<!DOCTYPE html><body style="margin:0"><iframe src="%s" style="border:0;width:%dpx;height:1200px"></iframe>' % (page.name, width))
-    subprocess.run(chromium("--window-size=%d,1200" % max(width, 500), "--screenshot=%s" % (folder / ("%s-%d.png" % (crate, width))), frame.as_uri()), capture_output=True, check=True)
+    frame.write_text('<!DOCTYPE html><body style="margin:0"><iframe src="%s" style="border:0;width:%dpx;height:1200px"></iframe>' % (file.name, width))
+    subprocess.run(chromium("--window-size=%d,1200" % max(width, 500), "--screenshot=%s" % (folder / ("%s-%d.png" % (name, width))), frame.as_uri()), capture_output=True, check=True)
 
 
 def main(words):
@@ -122,10 +136,12 @@ def main(words):
     with tempfile.TemporaryDirectory() as name:
         folder = pathlib.Path(words[1]) if len(words) == 2 else pathlib.Path(name)
         folder.mkdir(exist_ok=True)
-        for crate, file in STORED.items():
+        looked = list(stored())
+        assert [title for title, text, page in looked] == ["fleet", *NAMED], "pages"
+        for title, text, page in looked:
             for width in WIDTHS:
-                look(crate, file, pathlib.Path(name), width)
-                picture(crate, folder, width)
+                look(title, text, page, pathlib.Path(name), width)
+                picture(title, page, folder, width)
 
 
 if __name__ == "__main__":

@@ -22,14 +22,10 @@ mod forecasts;
 #[cfg(test)]
 mod over;
 #[cfg(test)]
-mod pages;
-#[cfg(test)]
 mod refusals;
 #[cfg(test)]
 mod requests;
 #[cfg(test)]
 mod sizes;
-#[cfg(test)]
-mod verticals;
 #[cfg(test)]
 mod words;

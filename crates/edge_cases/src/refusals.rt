@@ -1,116 +1,11 @@
-// Files that are refused at a line or for their length, of `raim`.
+// Limits of the greatest length, and of a byte more.
 
-use crate::over::{PREDICT, SURE, Texts, Top, expect, run_with, texts_of};
+use crate::over::{PREDICT, SURE, Texts, Top, run_with, texts_of};
 use flight_samples::*;
 use std::alloc::Global;
 use std::process::Abort;
 use std::test::Fail;
 use text_lines::LONGEST_FILE;
-
-#[test]
-fn the_first_file_that_is_refused_is_named(rt: HostRuntime) -> Result<(), Fail> {
-    let alloc = rt.alloc();
-    let five = sem_almanac(alloc, "2338", &FIVE)?;
-    let five = five.as_str();
-    let nine = repeated(alloc, five, 9)?;
-    let nine = nine.as_str();
-    let eccentric = sem_almanac(alloc, "2338", &[["0.04", "0.2", "0.5", "0.0"]])?;
-    let eccentric = eccentric.as_str();
-    let one_point = "2024-10-27T00:00:00.000Z 0 0 0\n";
-    let one_time = "2024-10-27T00:00:00.000Z 0 0 0\n2024-10-27T00:00:00.000Z 0 0 0\n";
-    let a_day_more = "2024-10-27T00:00:00.000Z 0 0 0\n2024-10-28T00:00:00.001Z 0 0 0\n";
-    let carriage = "leap 0\r\nmask -90\r\nalert 1\r\nbias 5 1\r\nx\r\n";
-    let bad = "x\n";
-    // Limits, almanac, outages, route; the note.
-    let rows: [(&str, &str, &str, &str, &str); 15] = [
-        ("", five, OUTAGE, bad, "raim: limits line 0: Missing\n"),
-        (
-            "leap 18 18\n",
-            five,
-            OUTAGE,
-            SECOND,
-            "raim: limits line 1: Word\n",
-        ),
-        (
-            carriage,
-            five,
-            OUTAGE,
-            SECOND,
-            "raim: limits line 5: Word\n",
-        ),
-        (MILD, five, bad, one_point, "raim: route line 1: TooFew\n"),
-        (
-            MILD,
-            five,
-            OUTAGE,
-            one_time,
-            "raim: route line 2: NotRising\n",
-        ),
-        (
-            MILD,
-            five,
-            OUTAGE,
-            a_day_more,
-            "raim: route line 2: TooLong\n",
-        ),
-        (MILD, bad, bad, SECOND, "raim: outages line 1: Word\n"),
-        (MILD, "", OUTAGE, SECOND, "raim: almanac line 0: Short\n"),
-        (
-            MILD,
-            " \r\n\n",
-            OUTAGE,
-            SECOND,
-            "raim: almanac line 0: Short\n",
-        ),
-        (
-            MILD,
-            "* week\n",
-            OUTAGE,
-            SECOND,
-            "raim: almanac line 1: Short\n",
-        ),
-        (
-            MILD,
-            "5 FIVE\n2338 0\n",
-            OUTAGE,
-            SECOND,
-            "raim: almanac line 2: CountDiffers 5 0\n",
-        ),
-        (
-            MILD,
-            nine,
-            OUTAGE,
-            SECOND,
-            "raim: almanac line 344: TooMany\n",
-        ),
-        // Ninety-one days and more before the flight, and an eccentricity that no almanac has.
-        (
-            MILD,
-            "2 TWO\n2324 0\n",
-            OUTAGE,
-            SECOND,
-            "raim: almanac line 2: Range\n",
-        ),
-        (
-            MILD,
-            eccentric,
-            OUTAGE,
-            SECOND,
-            "raim: almanac line 6: Range\n",
-        ),
-        (OVERFLOWING, five, OUTAGE, bad, "raim: route line 1: Word\n"),
-    ];
-    for (limits, almanac, outages, route, note) in rows {
-        let all = texts_of(limits, almanac, outages, route);
-        expect(&rt, alloc, Top::Flight, &PREDICT, all, (2, b"", note))?;
-    }
-    let no_text = Texts {
-        almanac: &[0, 255, 13, 10],
-        ..texts_of(MILD, "", OUTAGE, SECOND)
-    };
-    let note = "raim: almanac line 1: Number\n";
-    expect(&rt, alloc, Top::Flight, &PREDICT, no_text, (2, b"", note))
-}
 
 /// Fails unless a run with limits of so many bytes, the text and then these bytes, has this outcome after so many calls of the desk.
 fn expect_of_long_limits(

@@ -1,4 +1,4 @@
-// The words of each command, and words that ask for nothing.
+// The words of each command.
 
 use command_words::{Request, read_request};
 use std::alloc::Global;
@@ -54,37 +54,6 @@ fn a_number_is_from_zero_to_the_greatest(rt: HostRuntime) -> Result<(), Fail> {
             return Err(Fail::from("no memory"));
         };
         assert_eq!(rt; found, Some(Request::Demo { number }), "{words:?}");
-    }
-    Ok(())
-}
-
-#[test]
-fn other_words_ask_for_nothing(rt: HostRuntime) -> Result<(), Fail> {
-    let alloc = rt.alloc();
-    let lines: [&[&str]; 16] = [
-        &[],
-        &["raim"],
-        &["predict", "l", "a", "o", "r"],
-        &["raim", "Predict", "l", "a", "o", "r"],
-        &["raim", "predict", "l", "a", "o"],
-        &["raim", "predict", "l", "a", "o", "r", "s"],
-        &["raim", "predict", "l", "a", "o", "-r"],
-        &["raim", "predict", "l", "a", "o", "--route"],
-        &["raim", "predict", "--help"],
-        &["raim", "predict", "l", "a", "o", "r", "-h"],
-        &["raim", "demo"],
-        &["raim", "demo", "x"],
-        &["raim", "demo", "-1"],
-        &["raim", "demo", "--", "-1"],
-        &["raim", "demo", "4294967296"],
-        &["raim", "demo", "1", "2"],
-    ];
-    for words in lines {
-        let texts = texts_of(alloc, words)?;
-        let Ok(found) = read_request(alloc, &texts) else {
-            return Err(Fail::from("no memory"));
-        };
-        assert_eq!(rt; found, None, "{words:?}");
     }
     Ok(())
 }

@@ -1,4 +1,4 @@
-// Words that are no form of a program: its usage is said, and no file is named.
+// Words that are no form of a program: its usage is said, and no file is named. `raim_sequence` has more of them.
 
 use crate::over::{Calls, SURE, Top, run_with, texts_of};
 use flight_samples::*;
@@ -41,53 +41,23 @@ fn expect_usage(
     Ok(())
 }
 
-const OTHER_FLIGHT: [&[&str]; 19] = [
+const OTHER_FLIGHT: [&[&str]; 4] = [
     &[],
-    &["raim"],
     &["predict", "limits", "almanac", "outages", "route"],
-    &["raim", "predict"],
-    &["raim", "predict", "A", "B"],
     &["raim", "predict", "limits", "almanac", "outages"],
-    &[
-        "raim", "predict", "limits", "almanac", "outages", "route", "route",
-    ],
-    &["raim", "predict", "limits", "almanac", "outages", "-route"],
-    &["raim", "predict", "--help", "almanac", "outages", "route"],
-    &["raim", "predict", "limits", "almanac", "-h", "route"],
-    &["raim", "Predict", "limits", "almanac", "outages", "route"],
-    &["raim", "--help"],
-    &["raim", "-h"],
-    &["raim", "demo"],
-    &["raim", "demo", "x"],
     &["raim", "demo", ""],
-    &["raim", "demo", "-1"],
-    &["raim", "demo", "4294967296"],
-    &["raim", "demo", "1", "2"],
 ];
 
-const OTHER_VERTICAL: [&[&str]; 13] = [
+const OTHER_VERTICAL: [&[&str]; 4] = [
     &[],
-    &["raim_vert"],
-    &["raim_vert", "l", "a", "o", "r"],
     &["l", "a", "o", "r", "1"],
-    &["raim_vert", "l", "a", "o", "r", "1", "1"],
-    &["raim_vert", "l", "a", "o", "r", "0"],
-    &["raim_vert", "l", "a", "o", "r", "1000000001"],
-    &["raim_vert", "l", "a", "o", "r", "00000000001"],
     &["raim_vert", "l", "a", "o", "r", ""],
-    &["raim_vert", "l", "a", "o", "r", "+1"],
-    &["raim_vert", "l", "a", "o", "r", "-1"],
-    &["raim_vert", "l", "a", "o", "r", "1.0"],
     &["raim_vert", "l", "a", "o", "r", " 1"],
 ];
 
-const OTHER_FLEET: [&[&str]; 3] = [
-    &[],
-    &["raim_fleet", "limits", "almanac", "outages"],
-    &["a", "b", "c", "d", "e", "f"],
-];
+const OTHER_FLEET: [&[&str]; 2] = [&[], &["a", "b", "c", "d", "e", "f"]];
 
-const OTHER_CHART: [&[&str]; 3] = [&[], &["route"], &["raim_chart", "route", "route"]];
+const OTHER_CHART: [&[&str]; 2] = [&[], &["route"]];
 
 #[test]
 fn other_words_are_usage(rt: HostRuntime) -> Result<(), Fail> {

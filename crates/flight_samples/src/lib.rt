@@ -6,10 +6,8 @@ mod second;
 mod six_hours;
 mod whole;
 
-pub use satellites::{
-    AT_ONE_PLACE, EIGHT, Elements, FIVE, OVAL, OVERHEAD, SIX, repeated, sem_almanac,
-};
-pub use second::{EXCLUDING, MILD, NARROW, OUTAGE, OVERFLOWING, SECOND, THREE_RUNS};
+pub use satellites::{AT_ONE_PLACE, EIGHT, Elements, FIVE, OVERHEAD, sem_almanac};
+pub use second::{MILD, OUTAGE, OVERFLOWING, SECOND, THREE_RUNS};
 pub use six_hours::{
     ELEVEN_MINUTES, SIX_HOURS, SIX_HOURS_LIMITS, SIX_HOURS_OUTAGES, TWO_SATELLITES,
 };

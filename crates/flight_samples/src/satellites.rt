@@ -15,16 +15,6 @@ pub const FIVE: [Elements<'static>; 5] = [
     ["0.0", "0.2", "0.0", "0.0"],
 ];
 
-/// The five, and another one where the fifth stands.
-pub const SIX: [Elements<'static>; 6] = [
-    ["0.0", "0.2", "0.5", "0.0"],
-    ["0.0", "0.2", "-0.5", "0.0"],
-    ["0.0", "0.2", "0.0", "0.5"],
-    ["0.0", "0.2", "0.0", "-0.25"],
-    ["0.0", "0.2", "0.0", "0.0"],
-    ["0.0", "0.2", "0.0", "0.0"],
-];
-
 /// Eight satellites on nearly circular orbits.
 pub const EIGHT: [Elements<'static>; 8] = [
     ["0.01", "0.0056", "0.9477", "0.6276"],
@@ -43,15 +33,6 @@ pub const AT_ONE_PLACE: [Elements<'static>; 5] = [["0.0", "0.2", "0.0", "0.5"]; 
 /// Five satellites at one place, which at the begin of the week is exactly over latitude and longitude 0.
 pub const OVERHEAD: [Elements<'static>; 5] = [["0.0", "-0.30", "0.0", "0.0"]; 5];
 
-/// The five, of which the first is on the most eccentric orbit that is accepted.
-pub const OVAL: [Elements<'static>; 5] = [
-    ["0.03125", "0.2", "0.5", "0.0"],
-    ["0.0", "0.2", "-0.5", "0.0"],
-    ["0.0", "0.2", "0.0", "0.5"],
-    ["0.0", "0.2", "0.0", "-0.25"],
-    ["0.0", "0.2", "0.0", "0.0"],
-];
-
 /// An almanac of healthy satellites for a week, from PRN 1 on.
 pub fn sem_almanac(
     alloc: Global,
@@ -68,16 +49,6 @@ pub fn sem_almanac(
             "{prn}\n{prn}\n0\n{eccentricity} {inclination} 0.0\n5153.6 {node} 0.0\n{mean_anomaly} 0.0 0.0\n0\n9\n"
         )?;
         text.push_str(record.as_str())?;
-    }
-    Ok(text)
-}
-
-/// A file of so many almanacs, each this one.
-pub fn repeated(alloc: Global, almanac: &str, count: usize) -> Result<String, AllocError> {
-    let mut text = String::from_str(alloc, almanac)?;
-    for _ in 1..count {
-        text.push_str("---\n")?;
-        text.push_str(almanac)?;
     }
     Ok(text)
 }

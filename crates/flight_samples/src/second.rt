@@ -3,12 +3,6 @@
 /// Detection of the mildest kind: a mask under foot, the greatest alert limit and the least bias, and no leap second.
 pub const MILD: &str = "leap 0\nmask -90\nalert 1000000000\nbias 5 1\n";
 
-/// The same for exclusion.
-pub const EXCLUDING: &str = "leap 0\nmask -90\nalert 1000000000\nmode exclude\nbias 5 1\n";
-
-/// An alert limit that no slope meets.
-pub const NARROW: &str = "leap 0\nmask -90\nalert 100\nbias 5 1000\n";
-
 /// The least alert limit and the greatest bias.
 pub const OVERFLOWING: &str = "leap 0\nmask -90\nalert 1\nbias 5 1000000000\n";
 

@@ -5,4 +5,3 @@ mod counted;
 mod flights;
 mod looks;
 mod runs;
-mod vertical;

@@ -1,5 +1,0 @@
-use Rattle.verdict_cases.proofs.tests.vertical.judged_up.Given as goal
-
--- the ledger is the one that the blank names
-abbrev pub ghosts-split_afresh : goal.ghosts-split_afresh
-ghosts-split_afresh a = record { name = a.blank.name; parts = a.blank.parts }
