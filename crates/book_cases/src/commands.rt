@@ -1,10 +1,8 @@
 // Commands in turn over one book, and words that are no command.
 
-use crate::running::{Around, files, kept, kept_anew, told};
+use crate::running::{Around, files, kept_anew, kept_in_memory, told};
 use crate::texts::{ADD, CANCEL, RESCHEDULE, spelled};
 use notice_book::KeepFault;
-use notice_sqlite::SqliteKeeper;
-use sqlite::MemStore;
 use std::test::Fail;
 
 // Scripts, and what they say.
@@ -82,8 +80,7 @@ fn other_words_are_usage(rt: HostRuntime) -> Result<(), Fail> {
     };
     let mut count = 0u8;
     for line in USAGES.lines() {
-        let mut keeper: SqliteKeeper<MemStore> = SqliteKeeper::adopt(alloc, Err(KeepFault::Failed));
-        let said = kept(alloc, &mut keeper, line, failing)?;
+        let said = kept_in_memory(alloc, Some(KeepFault::Failed), line, failing)?;
         assert!(rt;
             said.as_str().starts_with("1\nnotice: usage\n"),
             "{line} {said}"

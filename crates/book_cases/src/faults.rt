@@ -1,10 +1,10 @@
 // Each call of a keeper, of a desk and of a sink failing in turn, and the faults of a database told apart.
 
-use crate::running::{Around, files, kept, told};
+use crate::running::{Around, files, kept_in_memory, told};
 use crate::texts::{ADD, messages, spelled};
 use notice_book::{KeepFault, OpenFault};
-use notice_sqlite::{SqliteKeeper, fault_of};
-use sqlite::{Error, ErrorCode, MemStore};
+use notice_sqlite::fault_of;
+use sqlite::{Error, ErrorCode};
 use sqlite_resolve::CompileError;
 use std::test::Fail;
 
@@ -115,8 +115,7 @@ fn a_database_that_was_not_opened_answers_its_fault(rt: HostRuntime) -> Result<(
             "notice b cancel 2 1",
             "notice b file outages",
         ] {
-            let mut keeper: SqliteKeeper<MemStore> = SqliteKeeper::adopt(alloc, Err(fault));
-            let said = kept(alloc, &mut keeper, line, files(ADD, ""))?;
+            let said = kept_in_memory(alloc, Some(fault), line, files(ADD, ""))?;
             assert_eq!(rt; said.as_str(), wanted, "{line}");
         }
     }

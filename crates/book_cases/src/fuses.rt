@@ -1,10 +1,9 @@
 // A disk that fails from a call on stands in for the file of a book, or for the log beside it.
 
-use crate::running::{files, keeper_in_memory, kept};
-use crate::tables::{opened, tables_of};
+use crate::running::{files, kept_anew, run_script};
 use crate::texts::spelled;
-use notice_book::Keeper;
-use notice_sqlite::{SqliteKeeper, fault_of, fold};
+use notice_book::KeepFault;
+use notice_sqlite::{fault_of, fold};
 use sqlite::{Connection, FileStore, Files, Options};
 use sqlite_disk::{Disk, Fuse, Memory};
 use std::alloc::Global;
@@ -45,12 +44,12 @@ fn image_of(alloc: Global, files: &Files<Fuse<Memory>>) -> Result<Image, Fail> {
     })
 }
 
-// A keeper over the disks, which keeps no page in memory that it read.
-fn keeper_of(
+// The database on the disks, which keeps no page in memory that it read.
+fn open(
     alloc: Global,
     image: &Image,
     passing: Passing,
-) -> Result<SqliteKeeper<FileStore<Fuse<Memory>>>, Fail> {
+) -> Result<Result<Connection<FileStore<Fuse<Memory>>>, KeepFault>, Fail> {
     let log = disk_of(alloc, &image.log, passing.log)?;
     let db = disk_of(alloc, &image.book, passing.book)?;
     if !log.may_be_used() || !db.may_be_used() {
@@ -58,11 +57,28 @@ fn keeper_of(
     }
     let mut options = Options::new(7);
     options.cache_pages = 0;
-    let opened = match Connection::open_files(alloc, Files { log, db }, options) {
-        Ok(conn) => Ok(conn),
-        Err((error, _left)) => Err(fault_of(error)),
-    };
-    Ok(SqliteKeeper::adopt(alloc, opened))
+    match Connection::open_files(alloc, Files { log, db }, options) {
+        Ok(conn) => Ok(Ok(conn)),
+        Err((error, _left)) => Ok(Err(fault_of(error))),
+    }
+}
+
+// How a database is left: as a process leaves it that ends there, or closed.
+#[derive(Clone, Copy, PartialEq, Eq)]
+enum End {
+    Broken,
+    Closed,
+}
+
+// The two files of a database that is left so, and whether it is closed.
+fn files_of<D: Disk + Drop>(conn: Connection<FileStore<D>>, end: End) -> (Files<D>, bool) {
+    if end == End::Broken {
+        return (conn.into_store().close(), false);
+    }
+    match fold(conn) {
+        Ok(files) => (files, true),
+        Err((_, files)) => (files, false),
+    }
 }
 
 // What a script left behind.
@@ -70,25 +86,35 @@ fn keeper_of(
 struct Left {
     said: String,
     is_opened: bool,
+    is_closed: bool,
     image: Image,
 }
 
 // Runs a script over the disks. Where they could not be opened they are as they were.
-fn run(alloc: Global, image: &Image, passing: Passing, script: &str) -> Result<Left, Fail> {
-    let mut keeper = keeper_of(alloc, image, passing)?;
-    let said = kept(alloc, &mut keeper, script, files("", ""))?;
+fn run(
+    alloc: Global,
+    image: &Image,
+    passing: Passing,
+    script: &str,
+    end: End,
+) -> Result<Left, Fail> {
+    let mut said = String::new(alloc);
+    let opened = open(alloc, image, passing)?;
+    let keeper = run_script(alloc, opened, script, files("", ""), &mut said)?;
     match keeper.into_opened() {
         Ok(conn) => {
-            let files = conn.into_store().close();
+            let (files, is_closed) = files_of(conn, end);
             Ok(Left {
                 said,
                 is_opened: true,
+                is_closed,
                 image: image_of(alloc, &files)?,
             })
         }
         Err(_) => Ok(Left {
             said,
             is_opened: false,
+            is_closed: false,
             image: Image {
                 log: image.log.as_slice().to_vec(alloc)?,
                 book: image.book.as_slice().to_vec(alloc)?,
@@ -99,27 +125,32 @@ fn run(alloc: Global, image: &Image, passing: Passing, script: &str) -> Result<L
 
 // The rows of both tables of a book that is opened again.
 fn tables(alloc: Global, image: &Image) -> Result<String, Fail> {
-    let mut conn = opened(keeper_of(alloc, image, ALL)?)?;
-    tables_of(alloc, &mut conn)
+    Ok(run(alloc, image, ALL, "database tables", End::Broken)?.said)
 }
 
 // The book that a script leaves behind when it is closed.
 fn closed(alloc: Global, book: &Image, script: &str) -> Result<Image, Fail> {
-    let mut keeper = keeper_of(alloc, book, ALL)?;
-    kept(alloc, &mut keeper, script, files("", ""))?;
-    match fold(opened(keeper)?) {
-        Ok(files) => image_of(alloc, &files),
-        Err(_) => Err(Fail::from("not closed")),
+    let left = run(alloc, book, ALL, script, End::Closed)?;
+    if !left.is_closed {
+        return Err(Fail::from("not closed"));
+    }
+    Ok(left.image)
+}
+
+fn empty_book(alloc: Global) -> Image {
+    Image {
+        log: Vec::new(alloc),
+        book: Vec::new(alloc),
     }
 }
 
 // A closed book of one outage.
 fn book_of_one(alloc: Global) -> Result<Image, Fail> {
-    let empty = Image {
-        log: Vec::new(alloc),
-        book: Vec::new(alloc),
-    };
-    closed(alloc, &empty, "notice b add 1 5 B -")
+    closed(
+        alloc,
+        &empty_book(alloc),
+        "notice b add 1 5 B -",
+    )
 }
 
 const FAULT: &str = "3\nnotice: keeper fault\n";
@@ -133,7 +164,7 @@ fn expect_whole(
     passing: Passing,
     held: (&str, &str),
 ) -> Result<u8, Fail> {
-    let left = run(alloc, book, passing, line)?;
+    let left = run(alloc, book, passing, line, End::Broken)?;
     let found = tables(alloc, &left.image)?;
     if left.said.as_str() == "0\n" {
         assert_eq!(rt; found.as_str(), held.1, "{line} {passing:?}");
@@ -157,7 +188,7 @@ fn a_commit_that_failed_is_not_done(rt: HostRuntime) -> Result<(), Fail> {
         "notice b move 2 1 C D",
         "notice b cancel 2 1",
     ] {
-        let done = run(alloc, &book, ALL, line)?;
+        let done = run(alloc, &book, ALL, line, End::Broken)?;
         assert_eq!(rt; done.said.as_str(), "0\n");
         let after = tables(alloc, &done.image)?;
         assert_ne!(rt; after, before);
@@ -185,23 +216,19 @@ const ADDS: &str = "notice b add 1 5 B -;notice b add 2 6 B C;notice b add 3 7 C
 #[test]
 fn a_failed_read_is_no_end_of_the_list(rt: HostRuntime) -> Result<(), Fail> {
     let alloc = rt.alloc();
-    let whole = spelled(alloc, "0;05 B -;06 B C;07 C D;")?;
-    let mut keeper = keeper_in_memory(alloc)?;
-    kept(alloc, &mut keeper, ADDS, files("", ""))?;
-    let mut conn = opened(keeper)?;
+    let whole = spelled(alloc, "0;0;0;0;05 B -;06 B C;07 C D;")?;
+    let fault = "0\n0\n0\n3\nnotice: keeper fault\n";
     let mut faults = 0u8;
     let mut lists = 0u8;
     for steps in 0u64..40 {
-        conn.set_step_limit(Some(steps));
-        let mut keeper = SqliteKeeper::adopt(alloc, Ok(conn));
-        let said = kept(alloc, &mut keeper, "notice b list", files("", ""))?;
-        if said.as_str() == FAULT {
+        let script = format!(in alloc; "{ADDS};database steps {steps};notice b list")?;
+        let said = kept_anew(alloc, script.as_str(), files("", ""))?;
+        if said.as_str() == fault {
             faults = faults.saturating_add(1);
         } else {
             assert_eq!(rt; said, whole, "{steps}");
             lists = lists.saturating_add(1);
         }
-        conn = opened(keeper)?;
     }
     assert!(rt; faults > 0 && lists > 0, "{faults} {lists}");
     Ok(())
@@ -216,7 +243,7 @@ fn expect_lists(rt: &impl Abort, alloc: Global, book: &Image) -> Result<(), Fail
         let log = Passing { log: calls, ..ALL };
         let file = Passing { book: calls, ..ALL };
         for passing in [log, file] {
-            let left = run(alloc, book, passing, "notice b list")?;
+            let left = run(alloc, book, passing, "notice b list", End::Broken)?;
             if left.said.as_str() == FAULT {
                 faults = faults.saturating_add(1);
             } else {
@@ -235,7 +262,7 @@ const MORE: &str = "notice b add 2 6 B C;notice b add 3 7 C D";
 #[test]
 fn a_list_with_a_log_is_whole_or_a_fault(rt: HostRuntime) -> Result<(), Fail> {
     let alloc = rt.alloc();
-    let book = run(alloc, &book_of_one(alloc)?, ALL, MORE)?.image;
+    let book = run(alloc, &book_of_one(alloc)?, ALL, MORE, End::Broken)?.image;
     expect_lists(&rt, alloc, &book)
 }
 
@@ -250,28 +277,20 @@ fn a_list_of_a_closed_book_is_whole_or_a_fault(rt: HostRuntime) -> Result<(), Fa
 #[test]
 fn tables_that_were_not_made_are_a_fault(rt: HostRuntime) -> Result<(), Fail> {
     let alloc = rt.alloc();
-    let empty = Image {
-        log: Vec::new(alloc),
-        book: Vec::new(alloc),
-    };
+    let empty = empty_book(alloc);
     let mut faults = 0u8;
     let mut made = 0u8;
     for calls in 0u64..60 {
         let log = Passing { log: calls, ..ALL };
         let file = Passing { book: calls, ..ALL };
         for passing in [log, file] {
-            let mut keeper = keeper_of(alloc, &empty, passing)?;
-            let is_ready = keeper.start("b").is_ok();
-            let Ok(conn) = keeper.into_opened() else {
-                assert!(rt; !is_ready, "{passing:?}");
-                continue;
-            };
-            let files = conn.into_store().close();
-            if is_ready {
-                let held = tables(alloc, &image_of(alloc, &files)?)?;
+            let left = run(alloc, &empty, passing, "keeper start", End::Broken)?;
+            if left.said.as_str() == "ok\n" {
+                assert!(rt; left.is_opened, "{passing:?}");
+                let held = tables(alloc, &left.image)?;
                 assert_eq!(rt; held.as_str(), "in effect\n", "{passing:?}");
                 made = made.saturating_add(1);
-            } else {
+            } else if left.is_opened {
                 faults = faults.saturating_add(1);
             }
         }
@@ -283,7 +302,8 @@ fn tables_that_were_not_made_are_a_fault(rt: HostRuntime) -> Result<(), Fail> {
 #[test]
 fn a_closed_book_is_whole_in_its_file(rt: HostRuntime) -> Result<(), Fail> {
     let alloc = rt.alloc();
-    let book = run(alloc, &book_of_one(alloc)?, ALL, "notice b add 2 6 C D")?.image;
+    let one = book_of_one(alloc)?;
+    let book = run(alloc, &one, ALL, "notice b add 2 6 C D", End::Broken)?.image;
     let wanted = tables(alloc, &book)?;
     let mut closed = 0u8;
     let mut faults = 0u8;
@@ -292,26 +312,18 @@ fn a_closed_book_is_whole_in_its_file(rt: HostRuntime) -> Result<(), Fail> {
         let log = Passing { log: calls, ..ALL };
         let file = Passing { book: calls, ..ALL };
         for passing in [log, file] {
-            let Ok(conn) = keeper_of(alloc, &book, passing)?.into_opened() else {
+            let mut left = run(alloc, &book, passing, "", End::Closed)?;
+            if !left.is_opened {
                 continue;
-            };
-            match fold(conn) {
-                Ok(files) => {
-                    let mut image = image_of(alloc, &files)?;
-                    // The log is not asked.
-                    image.log.clear();
-                    assert_eq!(rt; tables(alloc, &image)?, wanted, "{passing:?}");
-                    closed = closed.saturating_add(1);
-                }
-                Err((_, files)) => {
-                    assert_eq!(rt;
-                        tables(alloc, &image_of(alloc, &files)?)?,
-                        wanted,
-                        "{passing:?}"
-                    );
-                    faults = faults.saturating_add(1);
-                }
             }
+            if left.is_closed {
+                // The log is not asked.
+                left.image.log.clear();
+                closed = closed.saturating_add(1);
+            } else {
+                faults = faults.saturating_add(1);
+            }
+            assert_eq!(rt; tables(alloc, &left.image)?, wanted, "{passing:?}");
         }
     }
     assert!(rt; closed > 1 && faults > 1, "{closed} {faults}");

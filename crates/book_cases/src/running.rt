@@ -1,13 +1,15 @@
-// Scripts of commands on a book, over keepers in memory, and what they say.
+// Scripts of commands on a book, over keepers in memory and databases, and what they say.
 ghost use Rattle.std.specs.Prelude.{◌≡◌, IfSome};
 ghost use Rattle.notice_book.specs.Gains.{IsKept};
 
+use crate::calls::push_answer;
+use crate::tables::push_tables;
 use crate::texts::spelled;
-use notice_book::{Keeper, MemKeeper};
+use notice_book::{KeepFault, Keeper, MemKeeper};
 use notice_command::nanu_run;
 use notice_sqlite::SqliteKeeper;
 use raim_base::{MemDesk, MemSink};
-use sqlite::{Alter, Connection, MemStore};
+use sqlite::{Alter, Connection};
 use std::alloc::Global;
 use std::test::Fail;
 
@@ -118,26 +120,105 @@ pub(crate) fn told(
     run_lines(alloc, &mut keeper, script, around)
 }
 
-/// What a script says over a database.
-pub(crate) fn kept<S: Alter>(
+/// The database of a keeper.
+fn opened<S: Alter + Drop>(keeper: SqliteKeeper<S>) -> Result<Connection<S>, Fail> {
+    match keeper.into_opened() {
+        Ok(conn) => Ok(conn),
+        Err(_) => Err(Fail::from("not opened")),
+    }
+}
+
+// A line that is said to the database itself: `tables` says the rows of its two tables, `steps` how many steps a statement
+// may take, and any other is a statement.
+fn run_on_database<S: Alter + Drop>(
     alloc: Global,
-    keeper: &mut SqliteKeeper<S>,
+    conn: &mut Connection<S>,
+    line: &str,
+    said: &mut String,
+) -> Result<(), Fail> {
+    if line == "tables" {
+        return push_tables(alloc, conn, said);
+    }
+    if let Some(steps) = line.strip_prefix("steps ") {
+        conn.set_step_limit(steps.parse::<u64>().ok());
+        return Ok(());
+    }
+    match conn.execute_batch(line) {
+        Ok(_) => Ok(()),
+        Err(_) => Err(Fail::from("no such statement")),
+    }
+}
+
+// A line of a script on a database: a command, a call of the keeper itself behind `keeper`, or what is said to the database
+// behind `database`.
+fn run_on<S: Alter + Drop>(
+    alloc: Global,
+    mut keeper: SqliteKeeper<S>,
+    line: &str,
+    around: Around,
+    said: &mut String,
+) -> Result<SqliteKeeper<S>, Fail> {
+    if let Some(line) = line.strip_prefix("database ") {
+        let mut conn = opened(keeper)?;
+        run_on_database(alloc, &mut conn, line, said)?;
+        return Ok(SqliteKeeper::adopt(alloc, Ok(conn)));
+    }
+    if let Some(call) = line.strip_prefix("keeper ") {
+        push_answer(alloc, &mut keeper, call, said)?;
+    } else {
+        run_line(alloc, &mut keeper, line, around, said)?;
+    }
+    Ok(keeper)
+}
+
+/// Runs a script on what opening a database gave, and gives the keeper back.
+pub(crate) fn run_script<S: Alter + Drop>(
+    alloc: Global,
+    opened: Result<Connection<S>, KeepFault>,
+    script: &str,
+    around: Around,
+    said: &mut String,
+) -> Result<SqliteKeeper<S>, Fail> {
+    let script = spelled(alloc, script)?;
+    let mut keeper = SqliteKeeper::adopt(alloc, opened);
+    for line in script.lines() {
+        if !line.is_empty() {
+            keeper = run_on(alloc, keeper, line, around, said)?;
+        }
+    }
+    Ok(keeper)
+}
+
+// What a script says over what opening a database gave.
+fn said_over<S: Alter + Drop>(
+    alloc: Global,
+    opened: Result<Connection<S>, KeepFault>,
     script: &str,
     around: Around,
 ) -> Result<String, Fail> {
-    run_lines(alloc, keeper, script, around)
+    let mut said = String::new(alloc);
+    run_script(alloc, opened, script, around, &mut said)?;
+    Ok(said)
 }
 
-/// A keeper over an empty database in memory.
-pub(crate) fn keeper_in_memory(alloc: Global) -> Result<SqliteKeeper<MemStore>, Fail> {
-    let Ok(conn) = Connection::open_in_memory(alloc) else {
-        return Err(Fail::from("no memory"));
+/// What a script says over an empty database in memory, or over one that was not opened.
+pub(crate) fn kept_in_memory(
+    alloc: Global,
+    fault: Option<KeepFault>,
+    script: &str,
+    around: Around,
+) -> Result<String, Fail> {
+    let opened = match fault {
+        Some(fault) => Err(fault),
+        None => match Connection::open_in_memory(alloc) {
+            Ok(conn) => Ok(conn),
+            Err(_) => return Err(Fail::from("no memory")),
+        },
     };
-    Ok(SqliteKeeper::adopt(alloc, Ok(conn)))
+    said_over(alloc, opened, script, around)
 }
 
 /// What a script says over an empty database in memory.
 pub(crate) fn kept_anew(alloc: Global, script: &str, around: Around) -> Result<String, Fail> {
-    let mut keeper = keeper_in_memory(alloc)?;
-    kept(alloc, &mut keeper, script, around)
+    kept_in_memory(alloc, None, script, around)
 }

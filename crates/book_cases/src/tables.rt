@@ -1,8 +1,7 @@
 // What the two tables of a book hold, read by SQL.
 
-use crate::running::{Around, files, keeper_in_memory, kept};
+use crate::running::{files, kept_anew};
 use crate::texts::{ADD, RESCHEDULE};
-use notice_sqlite::SqliteKeeper;
 use sqlite::{Alter, Connection, Row};
 use std::alloc::Global;
 use std::test::Fail;
@@ -12,7 +11,7 @@ const NOTICES: &str =
 
 const ENTRIES: &str = "SELECT number, prn, start_ms, end_ms FROM live ORDER BY number";
 
-fn rows_of<S: Alter>(conn: &mut Connection<S>, sql: &str) -> Result<Vec<Row>, Fail> {
+fn rows_of<S: Alter + Drop>(conn: &mut Connection<S>, sql: &str) -> Result<Vec<Row>, Fail> {
     match conn.query_all(sql, &[]) {
         Ok(rows) => Ok(rows),
         Err(_) => Err(Fail::from("no rows")),
@@ -41,23 +40,17 @@ fn push_rows(alloc: Global, text: &mut String, rows: &[Row], width: usize) -> Re
     Ok(())
 }
 
-/// The rows of both tables: first the notices, and behind a line `in effect` the entries.
-pub(crate) fn tables_of<S: Alter>(alloc: Global, conn: &mut Connection<S>) -> Result<String, Fail> {
-    let mut text = String::new(alloc);
+/// Says the rows of both tables: first the notices, and behind a line `in effect` the entries.
+pub(crate) fn push_tables<S: Alter + Drop>(
+    alloc: Global,
+    conn: &mut Connection<S>,
+    text: &mut String,
+) -> Result<(), Fail> {
     let notices = rows_of(conn, NOTICES)?;
-    push_rows(alloc, &mut text, &notices, 6)?;
+    push_rows(alloc, text, &notices, 6)?;
     text.push_str("in effect\n")?;
     let entries = rows_of(conn, ENTRIES)?;
-    push_rows(alloc, &mut text, &entries, 4)?;
-    Ok(text)
-}
-
-/// The database of a keeper.
-pub(crate) fn opened<S: Alter>(keeper: SqliteKeeper<S>) -> Result<Connection<S>, Fail> {
-    match keeper.into_opened() {
-        Ok(conn) => Ok(conn),
-        Err(_) => Err(Fail::from("not opened")),
-    }
+    push_rows(alloc, text, &entries, 4)
 }
 
 // Commands, each with what it says and what the tables hold after it. The times are `2024-10-27T00:00` to `00:04`, in
@@ -103,17 +96,15 @@ const STEPS: [(&str, &str, &str); 7] = [
 #[test]
 fn tables_hold_what_was_accepted(rt: HostRuntime) -> Result<(), Fail> {
     let alloc = rt.alloc();
-    let around: Around = files(ADD, RESCHEDULE);
-    let mut keeper = keeper_in_memory(alloc)?;
-    for (script, wanted, tables) in STEPS {
-        assert_eq!(rt;
-            kept(alloc, &mut keeper, script, around)?.as_str(),
-            wanted,
-            "{script}"
-        );
-        let mut conn = opened(keeper)?;
-        assert_eq!(rt; tables_of(alloc, &mut conn)?.as_str(), tables, "{script}");
-        keeper = SqliteKeeper::adopt(alloc, Ok(conn));
+    let mut whole = String::new(alloc);
+    let mut wanted = String::new(alloc);
+    for (script, answer, tables) in STEPS {
+        whole.push_str(script)?;
+        whole.push_str(";database tables;")?;
+        wanted.push_str(answer)?;
+        wanted.push_str(tables)?;
     }
+    let said = kept_anew(alloc, whole.as_str(), files(ADD, RESCHEDULE))?;
+    assert_eq!(rt; said, wanted);
     Ok(())
 }
