@@ -1,13 +1,13 @@
 #!/usr/bin/env python3
 """Counts the instructions of judgements and of whole runs, by `valgrind --tool=callgrind`.
 
-A judgement of one millisecond is counted as the difference of `judge_bench 20` and `judge_bench 0` over a real constellation of 31
+A judgement of one millisecond is counted as the difference of twenty and none by `judged_pieces` over a real constellation of 31
 satellites, for detection and for exclusion; its line is held against the one that oracle/judgements.py works out. Whole runs are those
 of `raim`, and one of `raim_vert`. Of the longest one the memory is looked at too, while it runs by itself: the greatest resident set that the system has
 counted. Each figure is printed beside the most that it may be.
 
 Usage: python3 bench/judgements.py [detect|exclude|demo|flight|vertical|memory ..]
-Build the programs first: `rt run` in crates/judge_bench, in crates/raim_cli and in crates/raim_vert_cli.
+Build the programs first: `rt run` in crates/judged_pieces, in crates/raim_cli and in crates/raim_vert_cli.
 """
 import re
 import subprocess
@@ -18,10 +18,10 @@ from pathlib import Path
 from callgrind import count
 
 HERE = Path(__file__).resolve().parent.parent
-BENCH = HERE / "crates/judge_bench/out/judge_bench"
+BENCH = HERE / "crates/judged_pieces/out/judged_pieces"
 RAIM = HERE / "crates/raim_cli/out/raim_cli"
 RAIM_VERT = HERE / "crates/raim_vert_cli/out/raim_vert_cli"
-DATA = HERE / "crates/judge_bench/data"
+DATA = HERE / "crates/judged_pieces/data"
 FILES = ["gps.alm", "two.outages", "jfk-lhr.route"]
 TIMES = 20
 # name: the limits, the place of the line in the stored run, the most instructions a judgement
@@ -64,10 +64,11 @@ def memory(words):
 
 def judgement(name):
     limits, place, most = JUDGEMENTS[name]
-    stored = (HERE / "crates/judge_bench/stdout").read_text().splitlines()[place]
+    lines = (HERE / "crates/judged_pieces/stdout").read_text().splitlines()
+    stored = [line for line in lines if line.startswith("judged ")][place]
     words = [limits, *FILES]
-    instructions, printed = count([BENCH, TIMES, *words], DATA)
-    least, _ = count([BENCH, 0, *words], DATA)
+    instructions, printed = count([BENCH, *words, TIMES], DATA)
+    least, _ = count([BENCH, *words, 0], DATA)
     return shown(f"one judgement, {name}", (instructions - least) / TIMES, most, printed == stored)
 
 

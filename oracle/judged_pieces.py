@@ -85,6 +85,8 @@ def spelled(answer):
 if __name__ == "__main__":
     words = (CRATE / "args").read_text().split()
     for *files, pieces in (words[k:k + 5] for k in range(0, len(words), 5)):
+        if pieces.isdigit():
+            continue
         case = case_of(*files)
         lines = lines_of(pieces)
         agree = sum(spelled(verdict(case, int(first), int(last))) == said for first, last, *said in lines)

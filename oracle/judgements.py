@@ -1,17 +1,13 @@
 #!/usr/bin/env python3
-"""The line that `judge_bench N LIMITS ALMANAC OUTAGES ROUTE` prints, worked out by `verdicts.py`: N milliseconds spread evenly over a
+"""The line that `judged_pieces LIMITS ALMANAC OUTAGES ROUTE N` prints, worked out by `verdicts.py`: N milliseconds spread evenly over a
 flight, each judged by itself, and a checksum of their verdicts' texts.
 
 Usage: python3 oracle/judgements.py
-It prints the lines of the stored run of `crates/judge_bench`, over the files that it names.
+It prints the lines of the stored run of `crates/judged_pieces` that have a number in place of a list, over the files that they name.
 """
-from pathlib import Path
-
-import judged_pieces
-from judged_pieces import case_of, spelled
+from judged_pieces import CRATE, case_of, spelled
 from verdicts import verdict
 
-CRATE = Path(__file__).resolve().parent.parent / "crates" / "judge_bench"
 KINDS = ("Available", "Unavailable", "Undecided", "Overflow")
 
 
@@ -24,7 +20,6 @@ def fnv(text):
 
 
 def line(count, limits, almanac, outages, route):
-    judged_pieces.DATA = CRATE / "data"
     case = case_of(limits, almanac, outages, route)
     first, end = case.route[0].at, case.route[-1].at
     times = [first + k * (end - first) // count for k in range(count)]
@@ -37,5 +32,6 @@ def line(count, limits, almanac, outages, route):
 
 if __name__ == "__main__":
     words = (CRATE / "args").read_text().split()
-    for count, *files in (words[k:k + 5] for k in range(0, len(words), 5)):
-        print(line(int(count), *files), flush=True)
+    for *files, asked in (words[k:k + 5] for k in range(0, len(words), 5)):
+        if asked.isdigit():
+            print(line(int(asked), *files), flush=True)

@@ -84,7 +84,7 @@ fn judged_counted<L: Ledger>(
 }
 
 /// What judging a piece answers, where it lies between two neighbours of the cuts.
-fn judged(judge: &FlightJudge, cuts: &[i64], first: i64, last: i64) -> Option<Piece>
+pub fn judged(judge: &FlightJudge, cuts: &[i64], first: i64, last: i64) -> Option<Piece>
     requires { AreCuts (MayBeJudgedAgainst judge.now.alert judge.now.case) cuts.now }
 {
     judged_counted::<Brand>(judge, cuts, first, last, Blank::new(1))

@@ -1,16 +1,13 @@
 // The verdicts of milliseconds that are spread evenly over a flight.
-ghost use Rattle.std.specs.Prelude.{◌≡◌, ◌≤◌, ◌<◌};
+ghost use Rattle.std.specs.Prelude.{◌<◌};
 ghost use Rattle.raim_model.specs.Cuts.{AreCuts};
 ghost use Rattle.piece_verdict.specs.Alerts.{MayBeJudgedAgainst};
 
+use crate::agreement::judged;
 use crate::checksum::Checksum;
 use piece_verdict::FlightJudge;
 use raim_model::{Piece, Verdict};
 use report_text::words_of_verdict;
-use std::marker::Brand;
-use std::sync::ledger::{Blank, Ledger};
-use step_counter::Steps;
-use verdict_cases::judge_within;
 
 /// How many milliseconds were judged, how many have a verdict of each kind, and the checksum of the verdicts' texts, each ended
 /// by a line feed.
@@ -56,28 +53,6 @@ impl Tally {
     }
 }
 
-fn judged_counted<L: Ledger>(
-    judge: &FlightJudge,
-    cuts: &[i64],
-    t: i64,
-    blank: Blank,
-) -> Option<Piece>
-    requires cuts { AreCuts (MayBeJudgedAgainst judge.now.alert judge.now.case) cuts.now }
-    requires name { blank.name ≡ L.name }
-    requires parts { blank.parts ≡ L.parts }
-    requires some { 1 ≤ blank.parts }
-{
-    let mut steps: Steps<L> = Steps::new(blank);
-    judge_within(judge, cuts, t, t, &mut steps)
-}
-
-/// What judging one millisecond answers, where the cuts' flight has it.
-fn judged(judge: &FlightJudge, cuts: &[i64], t: i64) -> Option<Piece>
-    requires { AreCuts (MayBeJudgedAgainst judge.now.alert judge.now.case) cuts.now }
-{
-    judged_counted::<Brand>(judge, cuts, t, Blank::new(1))
-}
-
 /// The millisecond at which the part `k` of `n` equal parts of a flight begins, rounded down.
 fn part(first: i64, end: i64, k: u32, n: u32) -> Option<i64>
     requires { k < n }
@@ -98,7 +73,7 @@ pub fn tally_of(judge: &FlightJudge, cuts: &[i64], n: u32) -> Tally
     };
     for k in 0..n {
         if let Some(t) = part(*first, *end, k, n) {
-            if let Some(Piece::Decided(verdict)) = judged(judge, cuts, t) {
+            if let Some(Piece::Decided(verdict)) = judged(judge, cuts, t, t) {
                 tally.add(verdict);
             }
         }
