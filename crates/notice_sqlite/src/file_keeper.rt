@@ -2,7 +2,7 @@
 ghost use Rattle.std.specs.Prelude.{◌≡◌};
 
 use crate::SqliteKeeper;
-use crate::fault::fault_of;
+use crate::fault::{counted, fault_of};
 use crate::open::open_book;
 use notice_book::{KeepFault, Keeper, Live, Notice};
 use sqlite::{Connection, File, FileStore, Files};
@@ -20,11 +20,13 @@ pub struct FileKeeper {
 impl FileKeeper {
     /// A keeper that has opened nothing. A book that is missing is made only if that is asked.
     pub fn new(rt: HostRuntime, may_make: bool) -> FileKeeper {
-        let book = SqliteKeeper::adopt(rt.alloc(), Err(KeepFault::Failed));
         FileKeeper {
             rt,
             may_make,
-            book,
+            book: SqliteKeeper {
+                opened: Err(KeepFault::Failed),
+                faults: 0,
+            },
             has_changed: false,
         }
     }
@@ -38,7 +40,7 @@ impl FileKeeper {
             book,
             has_changed,
         } = self;
-        let Ok(conn) = book.into_opened() else {
+        let Ok(conn) = book.opened else {
             return Ok(());
         };
         match fold(conn) {
@@ -73,7 +75,12 @@ impl Keeper for FileKeeper {
 
     fn start(&mut self, path: &str) -> Result<(), KeepFault> {
         let opened = open_book(&self.rt, path, self.may_make);
-        self.book.open(opened)
+        let answer = match &opened {
+            Ok(_) => Ok(()),
+            Err(fault) => Err(*fault),
+        };
+        self.book.opened = opened;
+        counted(&mut self.book.faults, answer)
     }
 
     fn last(&mut self) -> Result<u32, KeepFault> {

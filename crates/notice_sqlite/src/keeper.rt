@@ -1,5 +1,4 @@
 // The keeper over a connection, or over the fault of its opening. It tells no tables.
-ghost use Rattle.notice_book.specs.KeepCauses.{HasKeepCause};
 
 use crate::fault::counted;
 use crate::store::{commit, entry_above, entry_at, entry_count, greatest_number, make_tables};
@@ -10,7 +9,7 @@ use std::alloc::Global;
 /// A keeper over a database, with a count of its faults.
 #[derive(Drop)]
 pub struct SqliteKeeper<S: Alter> {
-    opened: Result<Connection<S>, KeepFault>,
+    pub(crate) opened: Result<Connection<S>, KeepFault>,
     pub(crate) faults: u64,
 }
 
@@ -23,20 +22,6 @@ impl<S: Alter> SqliteKeeper<S> {
     /// The database, or the fault of its opening.
     pub fn into_opened(self) -> Result<Connection<S>, KeepFault> {
         self.opened
-    }
-}
-
-impl<S: Alter + Drop> SqliteKeeper<S> {
-    // Takes what opening a database gave in place of what it had.
-    pub(crate) fn open(&mut self, opened: Result<Connection<S>, KeepFault>) -> Result<(), KeepFault>
-        ensures cause { HasKeepCause self.old.faults self.new.faults result }
-    {
-        let answer = match &opened {
-            Ok(_) => Ok(()),
-            Err(fault) => Err(*fault),
-        };
-        self.opened = opened;
-        counted(&mut self.faults, answer)
     }
 }
 

@@ -141,10 +141,7 @@ fn is_unmade<S: Alter>(conn: &mut Connection<S>) -> Result<bool, KeepFault> {
 }
 
 // Makes sure that a database is a book. Where it has nothing in it, it is made one if that is asked.
-pub(crate) fn check_book<S: Alter>(
-    conn: &mut Connection<S>,
-    may_make: bool,
-) -> Result<(), KeepFault> {
+fn check_book<S: Alter>(conn: &mut Connection<S>, may_make: bool) -> Result<(), KeepFault> {
     if has_tables(conn)? {
         return Ok(());
     }
@@ -152,6 +149,15 @@ pub(crate) fn check_book<S: Alter>(
         return Err(NO_BOOK);
     }
     make_tables(conn)
+}
+
+// A database that is a book, which it is made where it has nothing in it and that is asked.
+fn checked<S: Alter + Drop>(
+    mut conn: Connection<S>,
+    may_make: bool,
+) -> Result<Connection<S>, KeepFault> {
+    check_book(&mut conn, may_make)?;
+    Ok(conn)
 }
 
 /// The book under a path. It is made where there is nothing if that is asked; a file that is no book is left as it is.
@@ -165,7 +171,5 @@ pub(crate) fn open_book(
         Place::Empty if !may_make => return Err(NO_BOOK),
         _ => {}
     }
-    let mut conn = take_turn(rt, path)?;
-    check_book(&mut conn, may_make)?;
-    Ok(conn)
+    checked(take_turn(rt, path)?, may_make)
 }
