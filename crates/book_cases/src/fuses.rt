@@ -146,11 +146,7 @@ fn empty_book(alloc: Global) -> Image {
 
 // A closed book of one outage.
 fn book_of_one(alloc: Global) -> Result<Image, Fail> {
-    closed(
-        alloc,
-        &empty_book(alloc),
-        "notice b add 1 5 B -",
-    )
+    closed(alloc, &empty_book(alloc), "notice b add 1 5 B -")
 }
 
 const FAULT: &str = "3\nnotice: keeper fault\n";
