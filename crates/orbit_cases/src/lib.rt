@@ -1,10 +1,12 @@
-//! Tests of sines, anomalies, satellites, receivers and views: tables that `oracle/` works out in whole numbers of any size.
+//! Tests of sines, anomalies, satellites, receivers and views, and of their forms: tables that `oracle/` works out in whole numbers of any size.
 #![tactic(auto)]
 
 #[cfg(test)]
 mod anomalies;
 #[cfg(test)]
 mod anomaly_table;
+#[cfg(test)]
+mod form_tables;
 #[cfg(test)]
 mod frames;
 #[cfg(test)]

@@ -21,7 +21,7 @@ pub(crate) struct Place {
     pub(crate) z: Iv,
 }
 
-fn record_of(name: &str) -> Option<AlmRecord>
+pub(crate) fn record_of(name: &str) -> Option<AlmRecord>
     ensures accepted { IfSome result (λ rec. IsAlmRecord rec) }
     ensures early { IfSome result (λ rec. neg_ℤ (pos (2 ^ 60)) ≤ℤ rec.toa_ms) }
     ensures late { IfSome result (λ rec. rec.toa_ms ≤ℤ pos (2 ^ 60)) }
