@@ -80,8 +80,11 @@ fn place_of(rec: &AlmRecord, middle: i64, half: i64) -> Option<Option<[TimeForm;
     requires late { rec.now.toa_ms ≤ℤ pos (2 ^ 60) }
 {
     let toa = rec.toa_ms;
-    let applicable = toa - NINETY_DAYS <= middle && middle <= toa + NINETY_DAYS;
-    if applicable && 1 <= half && half <= NINETY_DAYS {
+    if toa - NINETY_DAYS <= middle
+        && middle <= toa + NINETY_DAYS
+        && 1 <= half
+        && half <= NINETY_DAYS
+    {
         Some(position(&prepare(rec), middle, half))
     } else {
         None

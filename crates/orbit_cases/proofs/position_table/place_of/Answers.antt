@@ -4,11 +4,8 @@ use mir.Syntax.{w64}
 use Rattle.std.proofs.lemmas.Int.{ints}
 use Rattle.raim_model.specs.AlmanacRanges.{IsApplicable}
 use Rattle.trig_enclose.proofs.Casts.{plain}
+use Rattle.orbit_cases.proofs.Applied.{applies}
 use Rattle.orbit_cases.proofs.position_table.place_of.Goals as goal
-
--- a time from 90 days before the time of applicability to 90 days after it
-applies : (toa t : ℤ) → (toa -ℤ pos 7776000000) ≤ℤ t → t ≤ℤ (toa +ℤ pos 7776000000) → (toa ≤ℤ (t +ℤ pos 7776000000)) × (t ≤ℤ (toa +ℤ pos 7776000000))
-applies toa t h k = (omega (arith, ints), k)
 
 pub position-place-requires-clause-first_applicable : goal.position-place-requires-clause-first_applicable
 position-place-requires-clause-first_applicable c =
