@@ -9,6 +9,8 @@ Usage: python3 oracle/bench_lines.py [KIND N ..]
 import sys
 from functools import reduce
 
+import form_places
+import forms
 import geometry
 import intervals as iv
 import orbits
@@ -182,6 +184,35 @@ def halved(n, runs, judged):
     return f"runs {n * runs} judgements {n * judged}"
 
 
+def form_of_turns(i):
+    """From two turns below 0 to two above, turning by at most 2^20 units."""
+    return (scattered(i) % 2**40 - 2**39, scattered(i) % 2**21 - 2**20, i % 1000 + 1)
+
+
+def form_of_second(i):
+    """The place of the record's satellite over a second."""
+    return form_places.position(RECORD, RECORD.toa_ms + i * 7000 % 7_776_000_000, 500)
+
+
+def form_of_frame(i):
+    """The frame at any latitude, at most a turn of longitude either way, and a height from -1000 m to 30000 m."""
+    ranges = ((-68719476736, 137438953470), (-274877906944, 549755813886), (-274877906, 8521215112))
+    return form_places.frame([(i * factor % most + least, i % 2001 - 1000, 4) for factor, (least, most) in zip(SPREAD, ranges)])
+
+
+def summed_forms(n, forms_of):
+    """31 times the sum before, and the numbers of a form times 1, 3 and 5, for each form of a call that has some: modulo 2^61 - 1."""
+    total = 0
+    for i in range(n):
+        try:
+            found = forms_of(i)
+        except form_places.Lost:
+            continue
+        for centre, turning, remainder in found:
+            total = (31 * total + centre + 3 * turning + 5 * remainder) % MODULUS
+    return total
+
+
 KINDS = {
     "mul": lambda n: summed(n, lambda i: [iv.mul(dividend(i), factor(i))]),
     "sqr": lambda n: summed(n, lambda i: [iv.sqr(dividend(i))]),
@@ -196,6 +227,10 @@ KINDS = {
     "frame": lambda n: summed_vectors(n, frame_of),
     "look": lambda n: summed(n, lambda i: seen(ABOVE, i)),
     "hidden_look": lambda n: summed(n, lambda i: seen(BEYOND, i)),
+    "form_product": lambda n: summed_forms(n, lambda i: [form_places.kept(forms.product(form_of_turns(i), form_of_turns(i ^ 1)))]),
+    "form_sine": lambda n: summed_forms(n, lambda i: form_places.form_of_sin_cos(form_of_turns(i))),
+    "form_position": lambda n: summed_forms(n, form_of_second),
+    "form_frame": lambda n: summed_forms(n, form_of_frame),
     # 2^40 milliseconds, of which the first is undecided; and 65,536 that are each a run
     "island": lambda n: halved(n, 2, judgements(0, 2**40 - 1, lambda first, last: first <= 0 <= last)),
     "alternating": lambda n: halved(n, 65_536, judgements(0, 65_535, lambda first, last: True)),

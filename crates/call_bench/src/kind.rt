@@ -1,5 +1,6 @@
 // The kinds of calls that are timed, by their names.
 
+use crate::form_calls::FormCall;
 use crate::halvings::Range;
 use crate::interval_calls::IntervalCall;
 use crate::receiver_calls::Side;
@@ -23,6 +24,8 @@ pub enum Kind {
     Frame,
     /// A look at a satellite.
     Look(Side),
+    /// A call on forms of time.
+    Form(FormCall),
     /// A range of time that is split.
     Halving(Range),
 }
@@ -43,6 +46,10 @@ impl Kind {
             "frame" => Some(Kind::Frame),
             "look" => Some(Kind::Look(Side::Above)),
             "hidden_look" => Some(Kind::Look(Side::Beyond)),
+            "form_product" => Some(Kind::Form(FormCall::Product)),
+            "form_sine" => Some(Kind::Form(FormCall::Sine)),
+            "form_position" => Some(Kind::Form(FormCall::Position)),
+            "form_frame" => Some(Kind::Form(FormCall::Frame)),
             "island" => Some(Kind::Halving(Range::Island)),
             "alternating" => Some(Kind::Halving(Range::Alternating)),
             _ => None,
@@ -64,6 +71,10 @@ impl Kind {
             Kind::Frame => "frame",
             Kind::Look(Side::Above) => "look",
             Kind::Look(Side::Beyond) => "hidden_look",
+            Kind::Form(FormCall::Product) => "form_product",
+            Kind::Form(FormCall::Sine) => "form_sine",
+            Kind::Form(FormCall::Position) => "form_position",
+            Kind::Form(FormCall::Frame) => "form_frame",
             Kind::Halving(Range::Island) => "island",
             Kind::Halving(Range::Alternating) => "alternating",
         }

@@ -3,6 +3,7 @@
 //! split: how many runs and judgements that gave).
 #![tactic(auto)]
 
+mod form_calls;
 mod halvings;
 mod interval_calls;
 mod kind;
@@ -19,7 +20,7 @@ use std::io::Print;
 use std::{env, io};
 
 const USAGE: &str = "call_bench mul|sqr|div|sqrt|decimal|sine|kepler|position|detect|exclude|\
-    frame|look|hidden_look|island|alternating N ..";
+    frame|look|hidden_look|form_product|form_sine|form_position|form_frame|island|alternating N ..";
 
 /// Makes `n` calls of a kind, and prints its line.
 fn print_line(rt: &impl Print, alloc: Global, kind: Kind, n: u32) -> io::Result<()> {
@@ -54,6 +55,9 @@ fn print_line(rt: &impl Print, alloc: Global, kind: Kind, n: u32) -> io::Result<
             n,
             receiver_calls::sum_of_looks(side, n)
         ),
+        Kind::Form(call) => {
+            println!(rt; "{} {} {}", kind.name(), n, form_calls::sum_of(call, n))
+        }
         Kind::Halving(range) => match tally_of(alloc, range, n) {
             Ok(tally) => println!(rt;
                 "{} {} runs {} judgements {}",

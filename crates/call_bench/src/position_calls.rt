@@ -8,7 +8,7 @@ use almanac_orbit::{Orbit, position, prepare};
 use raim_model::{AlmRecord, Angle, Dec};
 
 /// A record as a SEM file has it.
-fn record_of() -> AlmRecord
+pub(crate) fn record_of() -> AlmRecord
     ensures accepted { IsAlmRecord result }
     ensures toa { result.toa_ms ≡ pos 1414022400000 }
 {
@@ -55,7 +55,7 @@ fn record_of() -> AlmRecord
 }
 
 /// The millisecond of a call: seven seconds a call from the time of applicability on, within 90 days.
-fn time(i: u32) -> i64
+pub(crate) fn time(i: u32) -> i64
     ensures low { pos 1414022400000 ≤ℤ result }
     ensures high { result ≤ℤ pos 1421798400000 }
 {

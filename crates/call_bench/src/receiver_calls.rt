@@ -11,7 +11,7 @@ ghost use Rattle.site_laws.specs.Sights.{IsInReach, IsSineEnds};
 ghost use Rattle.leg_place.specs.Places.{place_ends};
 ghost use Rattle.wgs_position.specs.Frames.{frame_ends};
 
-use crate::sums::{added, from};
+use crate::sums::{added, from, spread};
 use elev_mask::{Sight, look};
 use fix_interval::Iv;
 use leg_place::PlaceBox;
@@ -24,11 +24,6 @@ pub enum Side {
     Above,
     /// Those beyond the Earth.
     Beyond,
-}
-
-/// Numbers that scatter, in a way for each factor.
-fn spread(i: u32, factor: u32) -> u64 {
-    i as u64 * factor as u64
 }
 
 /// Any latitude, at most three units wide.

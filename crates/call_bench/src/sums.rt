@@ -24,6 +24,11 @@ pub(crate) fn scattered(i: u32) -> u64
     i as u64 * 2654435761
 }
 
+/// Numbers that scatter, in a way for each factor.
+pub(crate) fn spread(i: u32, factor: u32) -> u64 {
+    i as u64 * factor as u64
+}
+
 /// What is added for an end, in their order.
 const WEIGHTS: [i128; 6] = [1, 3, 5, 7, 11, 13];
 
