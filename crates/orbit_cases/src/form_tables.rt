@@ -1,5 +1,5 @@
-// Tables of forms of sines, of eccentric anomalies and of satellites' places, worked out in whole numbers of any size as the
-// definitions are written (`oracle/table_of_form_places.py`).
+// Tables of forms of sines, of eccentric anomalies, of satellites' places and of receivers' frames, worked out in whole numbers of
+// any size as the definitions are written (`oracle/table_of_form_places.py`).
 
 ghost use Rattle.std.specs.Prelude.{pos, neg_ℤ, ◌^◌, ◌≤ℤ◌, IsTrue, IfSome};
 ghost use Rattle.raim_model.specs.AlmanacRanges.{IsAlmRecord};
@@ -11,6 +11,7 @@ use angle_forms::{SineCosine, ecc_sin_cos, sin_cos};
 use fix_interval::Iv;
 use raim_model::AlmRecord;
 use satellite_forms::position;
+use site_forms::{TimeFrame, TimePlace, frame};
 use std::str::SplitWhitespace;
 use time_forms::TimeForm;
 
@@ -73,6 +74,18 @@ fn say_place(words: &mut SplitWhitespace, answer: Option<[TimeForm; 3]>) -> bool
     }
 }
 
+fn say_frame(words: &mut SplitWhitespace, answer: Option<TimeFrame>) -> bool {
+    match answer {
+        Some(frame) => {
+            say(words, &frame.position)
+                && say(words, &frame.east)
+                && say(words, &frame.north)
+                && say(words, &frame.up)
+        }
+        None => say_none(words),
+    }
+}
+
 /// The place of a satellite, where it may be asked.
 fn place_of(rec: &AlmRecord, middle: i64, half: i64) -> Option<Option<[TimeForm; 3]>>
     requires accepted { IsAlmRecord rec.now }
@@ -121,12 +134,18 @@ fn is_right(line: &str) -> Option<bool> {
             let eps = eccentricity(&mut words)?;
             Some(say_pair(&mut words, ecc_sin_cos(mean, eps)))
         }
-        _ => {
+        "Position" => {
             let rec = record_of(words.next()?)?;
             let middle = number(&mut words)?;
             let half = number(&mut words)?;
             let place = place_of(&rec, middle, half)?;
             Some(say_place(&mut words, place))
+        }
+        _ => {
+            let lat = form_of(&mut words)?;
+            let lon = form_of(&mut words)?;
+            let height = form_of(&mut words)?;
+            Some(say_frame(&mut words, frame(&TimePlace { lat, lon, height })))
         }
     }
 }
@@ -138,7 +157,7 @@ fn forms_of_places_are_as_the_table_says(rt: HostRuntime) {
         lines = lines.wrapping_add(1);
         assert_eq!(rt; is_right(line), Some(true), "{line}");
     }
-    assert_eq!(rt; lines, 21);
+    assert_eq!(rt; lines, 27);
 }
 
 /// What is asked, its arguments (for a position the record, the middle and the half length), and the answer.
@@ -163,4 +182,10 @@ Position yuma 1414431504123 500 -6875251771358 131515107 163889 232973912646 -77
 Position sem 1406246400000 30000 6632331244485 -7381465776 162787278 -1558134472459 6587589001 142586566 2427148456955 24060904628 84829407
 Position fast 7775999998 300000 -687690822181 328456078225 30737616292 -3291056533013 52503912662 29027330552 2649885964932 140398401295 15238455923
 Position extreme -123456784 8 5638635671434 -13000217 254747 -12623874269548 -5917619 254677 0 0 17
-Position late 1414022400004 50000000 none";
+Position late 1414022400004 50000000 none
+Frame 0 0 0 0 0 0 0 0 0 1753208948748 0 3410 0 0 1675 0 0 1663 0 0 262 274877906943 0 262 0 0 0 0 0 266 0 0 4 274877906943 0 262 274877906942 0 528 0 0 266 0 0 262
+Frame 36650387568 12345678 3 -55739131093 -23456789 3 2748779060 1 4 344162422427 -711118388 289079 -1125704219875 167218928 272674 1298607833437 331189448 73475 262867049651 43090722 40413 80366522468 -140943401 40413 0 0 0 -59723951976 89565928 46710 195348291706 81659246 45083 183929220663 -57645880 11470 53775714722 -111163568 45192 -175892383917 26293708 42543 204274094079 51904582 11470
+Frame 68719476736 0 1 274877906944 0 1 -274877906 0 1 0 0 1933 0 0 4 1747055893188 0 1999 0 0 301 274877906943 0 301 0 0 0 -274877906942 0 606 0 0 305 0 0 301 0 0 305 0 0 4 274877906943 0 301
+Frame -22906492230 763549741 7 152709948200 -763549741 7 824633718 274877906 9 -1428671386036 -23622408075 541578917 -519850090648 19639502998 461906242 -871876936861 26263598040 271366712 94013780526 -4508198387 42419966 -258300740992 -1640850012 42419966 0 0 0 -129137969698 3083789324 74373381 -47040960931 3675116986 71132609 238051250401 2398762255 42419966 -223702163120 -3675116987 84388011 -81398651532 3083789324 71988430 -137438953389 4154778104 42419967
+Frame 36650387568 144115188075855872 3 -55739131093 0 3 0 0 0 none
+Frame 36650387568 137438953472 3 -55739131093 0 3 0 0 0 339768835691 -1204249087106 3958715400504 -1111333782511 3938921267850 12948374534978 1325983624403 3709047258461 13357181708345 262867049651 0 380 80366522468 0 380 0 0 0 -59723965283 -168941343884 401832615456 195348287637 552582235329 1314335251670 183929220663 -641745993277 1374389535170 53775699943 -187628370577 401832615517 -175892388435 613704745330 1314335251730 204274094079 577830688415 1374389535170";
