@@ -1,7 +1,7 @@
 -- What is told where there may be no answer, and what the written test is then.
-use Rattle.std.specs.Prelude.{◌≡◌, ℕ, ℤ, ◌<◌, List, Some, None, IfSome, length, slice_index_or, unwrap_or, refl}
+use Rattle.std.specs.Prelude.{◌≡◌, ℕ, ◌<◌, List, Some, None, IfSome, length, slice_index_or, unwrap_or}
 use Rattle.std.specs.declared.option.Option.{Option}
-use Rattle.std.proofs.Common.{ap, ap₂, sym, subst, ◌∙◌, ◌⊎◌, inl, inr}
+use Rattle.std.proofs.Common.{ap, ap₂, sym, subst, ◌∙◌, inl, inr}
 use Rattle.std.proofs.lemmas.List.{get_or_default}
 use Rattle.raim_model.specs.declared.Verdict.{Verdict}
 use Rattle.raim_model.specs.Geometry.{East, North, Up}
@@ -15,7 +15,7 @@ use Rattle.geometry_forms.specs.Geometry.{gram_form, det_form, inner_form, alpha
 use Rattle.matrix_forms.specs.declared.FormRow.{FormRow}
 use Rattle.matrix_forms.specs.Views.{row_of, rows_of}
 use Rattle.matrix_forms.specs.Lines.{line_of}
-use Rattle.slope_forms.specs.Told.{Told, unknown, TellsVerdict}
+use Rattle.slope_forms.specs.Told.{Told, TellsVerdict}
 use Rattle.slope_forms.specs.Slopes.{squared_form, margin_form, margin_told}
 use Rattle.list_forms.specs.declared.told.Told.{Told as Answer}
 use Rattle.list_forms.specs.declared.told.Told.TheVariants.{Unknown}

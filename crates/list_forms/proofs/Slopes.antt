@@ -1,8 +1,7 @@
 -- The slopes of a list, told one by one: one that surely fails decides, and one of which nothing is told leaves the list open.
-use Rattle.std.specs.Prelude.{◌≡◌, ℕ, zero, suc, ◌+◌, ◌<◌, ◌≤◌, Bool, true, false, if◌then◌else◌, List, [], ◌∷◌, length, slice_index_or, refl}
+use Rattle.std.specs.Prelude.{◌≡◌, ℕ, zero, suc, pos, ◌+◌, ◌<◌, ◌≤◌, Bool, true, false, if◌then◌else◌, List, [], ◌∷◌, length, slice_index_or, refl}
 use Rattle.std.proofs.Common.{arith, ap, sym, subst, ◌∙◌, ◌⊎◌, inl, inr, below_more}
 use lib.Signed.{le_z, lt_z}
-use Rattle.std.specs.Prelude.{pos}
 use Rattle.raim_model.specs.declared.verdict.Why.{Why}
 use Rattle.raim_model.specs.declared.verdict.Why.TheVariants as why
 use Rattle.time_forms.specs.Forms.{Form, least_of, greatest_of}

@@ -1,6 +1,6 @@
 // Fault detection.
 
-ghost use Rattle.std.specs.Prelude.{◌≡◌, ℕ, ℤ, ◌⊎◌, ◌^◌, ◌≤◌, ◌<◌, List, length, slice_index_or, IfSome};
+ghost use Rattle.std.specs.Prelude.{◌≡◌, ℕ, ℤ, ◌⊎◌, ◌^◌, ◌≤◌, ◌<◌, List, length, IfSome};
 ghost use Rattle.raim_model.specs.declared.Why.TheVariants.{Few};
 ghost use Rattle.fix_interval.specs.Ends.{Ends, IsInside};
 ghost use Rattle.geometry_laws.specs.Without.{without};

@@ -22,7 +22,7 @@ use raim_model::Why;
 use slope_laws::Shift;
 use time_forms::TimeForm;
 
-/// What is told of the list `rest` without the row at place `j`, where the sums over all rows are at hand.
+/// What is told of `rest`, the list without the row at place `j`, where the sums over all rows are at hand.
 fn told_without(
     shift: Shift,
     rows: &[FormRow],

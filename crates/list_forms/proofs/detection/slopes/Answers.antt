@@ -1,4 +1,4 @@
-use Rattle.std.proofs.Common.{sym, ◌∙◌}
+use Rattle.std.proofs.Common.{arith, sym, ◌∙◌}
 use Rattle.time_forms.specs.Programs.{form}
 use Rattle.list_forms.specs.Views.{told}
 use Rattle.list_forms.specs.Lines.{slope_along, removal_of}
@@ -13,7 +13,7 @@ pub returns-then-fails : goal.returns-then-fails
 returns-then-fails c =
     let f = slope_along c.args.lines.now (form c.args.determinant) (form c.args.kappa) in
     let each = slope_or_unknown c.slope_at.result c.unwrap_or-this.result (λ y. f (removal_of c.args.rows.now c.loop-i.i y)) c.slope_at.ensures c.unwrap_or-this.ensures in
-    slopes_stop (told c.unwrap_or-this.result) f c.args.rows.now c.loop-i.i (along_by_slope c.args.lines.now (form c.args.determinant) (form c.args.kappa)) c.loop-i-test.true (sym c.fails.ensures ∙ c.if-fails.true) each
+    slopes_stop (told c.unwrap_or-this.result) f c.args.rows.now c.loop-i.i (along_by_slope c.args.lines.now (form c.args.determinant) (form c.args.kappa)) (omega arith) (sym c.fails.ensures ∙ c.if-fails.true) each
 
 pub loop-i-preserved : goal.loop-i-preserved
 loop-i-preserved c =

@@ -1,4 +1,4 @@
-use Rattle.std.proofs.Common.{◌≡◌, ◌≤◌, ◌+◌, arith, ap, sym, subst, ◌∙◌, length, List}
+use Rattle.std.proofs.Common.{◌≡◌, ◌+◌, arith, ap, sym, subst, ◌∙◌, length, List}
 use Rattle.geometry_laws.specs.Without.{without}
 use Rattle.time_forms.specs.Programs.{form}
 use Rattle.geometry_forms.specs.Rows.{RowForm}

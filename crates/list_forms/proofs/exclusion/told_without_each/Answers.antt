@@ -1,5 +1,4 @@
-use Rattle.std.proofs.Common.{◌≡◌, arith, refl, sym, ◌∙◌, length, ◌-◌, inr}
-use Rattle.std.specs.Prelude.{true, false}
+use Rattle.std.proofs.Common.{arith, sym, ◌∙◌, length, ◌-◌, inr}
 use Rattle.std.proofs.lemmas.List.{length-set}
 use Rattle.time_forms.specs.Programs.{form}
 use Rattle.slope_forms.specs.Slopes.{detect_told}
