@@ -201,7 +201,7 @@ def form_of_frame(i):
 
 
 def summed_forms(n, forms_of):
-    """31 times the sum before, and the numbers of a form times 1, 3 and 5, for each form of a call that has some: modulo 2^61 - 1."""
+    """31 times the sum before, and the numbers of a form times 1, 3 and 5, for each form of a call that has some: modulo 2^64."""
     total = 0
     for i in range(n):
         try:
@@ -209,7 +209,7 @@ def summed_forms(n, forms_of):
         except form_places.Lost:
             continue
         for centre, turning, remainder in found:
-            total = (31 * total + centre + 3 * turning + 5 * remainder) % MODULUS
+            total = (31 * total + centre + 3 * turning + 5 * remainder) % 2**64
     return total
 
 
