@@ -200,8 +200,13 @@ def form_of_frame(i):
     return form_places.frame([(i * factor % most + least, i % 2001 - 1000, 4) for factor, (least, most) in zip(SPREAD, ranges)])
 
 
+def signed(total):
+    """The number from -2^63 on that 64 bits stand for."""
+    return total - 2**64 if total >= 2**63 else total
+
+
 def summed_forms(n, forms_of):
-    """31 times the sum before, and the numbers of a form times 1, 3 and 5, for each form of a call that has some: modulo 2^64."""
+    """31 times the sum before, and the numbers of a form times 1, 3 and 5, for each form of a call that has some: in 64 bits."""
     total = 0
     for i in range(n):
         try:
@@ -210,7 +215,7 @@ def summed_forms(n, forms_of):
             continue
         for centre, turning, remainder in found:
             total = (31 * total + centre + 3 * turning + 5 * remainder) % 2**64
-    return total
+    return signed(total)
 
 
 KINDS = {

@@ -61,23 +61,23 @@ fn place(i: u32) -> TimePlace
     }
 }
 
-/// 31 times the sum before, and the numbers of a form times 1, 3 and 5, for each form: modulo 2^64, which costs little beside
-/// a product of forms.
+/// 31 times the sum before, and the numbers of a form times 1, 3 and 5, for each form: what is left of it in 64 bits, which
+/// costs little beside a product of forms.
 #[inline(always)]
-fn onto(before: u64, forms: &[TimeForm]) -> u64 {
+fn onto(before: i64, forms: &[TimeForm]) -> i64 {
     let mut sum = before;
     for f in forms {
         sum = sum
             .wrapping_mul(31)
-            .wrapping_add(f.centre as u64)
-            .wrapping_add((f.turning as u64).wrapping_mul(3))
-            .wrapping_add((f.remainder as u64).wrapping_mul(5));
+            .wrapping_add(f.centre)
+            .wrapping_add(f.turning.wrapping_mul(3))
+            .wrapping_add(f.remainder.wrapping_mul(5));
     }
     sum
 }
 
-fn sum_of_products(n: u32) -> u64 {
-    let mut sum: u64 = 0;
+fn sum_of_products(n: u32) -> i64 {
+    let mut sum: i64 = 0;
     for i in 0..n {
         if let Some(product) = mul(turns(i), turns(i ^ 1)) {
             sum = onto(sum, &[product]);
@@ -86,8 +86,8 @@ fn sum_of_products(n: u32) -> u64 {
     sum
 }
 
-fn sum_of_sines(n: u32) -> u64 {
-    let mut sum: u64 = 0;
+fn sum_of_sines(n: u32) -> i64 {
+    let mut sum: i64 = 0;
     for i in 0..n {
         if let Some(pair) = sin_cos(turns(i)) {
             sum = onto(sum, &[pair.sine, pair.cosine]);
@@ -96,10 +96,10 @@ fn sum_of_sines(n: u32) -> u64 {
     sum
 }
 
-fn sum_over(orbit: &Orbit, n: u32) -> u64
+fn sum_over(orbit: &Orbit, n: u32) -> i64
     requires toa { orbit.now.toa_ms ≡ pos 1414022400000 }
 {
-    let mut sum: u64 = 0;
+    let mut sum: i64 = 0;
     for i in 0..n {
         if let Some(place) = position(orbit, time(i), 500) {
             sum = onto(sum, &place);
@@ -108,8 +108,8 @@ fn sum_over(orbit: &Orbit, n: u32) -> u64
     sum
 }
 
-fn sum_of_frames(n: u32) -> u64 {
-    let mut sum: u64 = 0;
+fn sum_of_frames(n: u32) -> i64 {
+    let mut sum: i64 = 0;
     for i in 0..n {
         if let Some(found) = frame(&place(i)) {
             sum = onto(sum, &found.position);
@@ -122,7 +122,7 @@ fn sum_of_frames(n: u32) -> u64 {
 }
 
 /// The sum of N calls.
-pub fn sum_of(call: FormCall, n: u32) -> u64 {
+pub fn sum_of(call: FormCall, n: u32) -> i64 {
     match call {
         FormCall::Product => sum_of_products(n),
         FormCall::Sine => sum_of_sines(n),
