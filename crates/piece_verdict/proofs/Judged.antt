@@ -1,11 +1,12 @@
 -- What the answer of a judgement says of the solutions of a piece.
-use Rattle.std.specs.Prelude.{◌≡◌, ℕ, ℤ, ◌≤ℤ◌, true}
-use Rattle.std.proofs.Common.{ap, sym, subst, ◌∙◌}
+use Rattle.std.specs.Prelude.{◌≡◌, ℕ, ℤ, ◌≤ℤ◌, ◌<ℤ◌, Bool, true, false, List, refl}
+use Rattle.std.proofs.Common.{ap, sym, subst, inl, inr, ◌∙◌}
+use Rattle.std.proofs.lemmas.Bool.{cases_Bool}
 use Rattle.std.proofs.lemmas.Int.{ints}
 use Rattle.std.proofs.Common.{arith}
 use Rattle.raim_model.specs.declared.verdict.Cmp.TheVariants.{Mask}
 use Rattle.raim_model.specs.declared.verdict.Piece.{Piece}
-use Rattle.raim_model.specs.declared.verdict.Piece.TheVariants.{Decided}
+use Rattle.raim_model.specs.declared.verdict.Piece.TheVariants.{Decided, Split}
 use Rattle.raim_model.specs.declared.verdict.Verdict.{Verdict}
 use Rattle.raim_model.specs.declared.verdict.Verdict.TheVariants.{Undecided}
 use Rattle.raim_model.specs.CaseCuts.{MayBeJudged}
@@ -22,9 +23,12 @@ use Rattle.flight_laws.proofs.Usable.{judged_inside}
 use Rattle.case_laws.specs.SightOver.{sight_over}
 use Rattle.case_laws.proofs.Choices.{has_choices}
 use Rattle.case_laws.proofs.Looks.{sights_hold}
+use Rattle.time_split.specs.Told.{MayAnswer}
 use Rattle.piece_verdict.specs.declared.alert.Alert.{Alert}
-use Rattle.piece_verdict.specs.Alerts.{MayBeJudgedAgainst, shift_of, limit_of, verdict_against, HasVerdictAgainst}
-use Rattle.piece_verdict.specs.CaseLaws.{some_limit}
+use Rattle.piece_verdict.specs.Alerts.{MayBeJudgedAgainst, shift_of, limit_of, verdict_against, verdict_knowing, HasVerdictAgainst}
+use Rattle.piece_verdict.specs.AlertLaws.{some_limit}
+use Rattle.piece_verdict.specs.Hidden.{KnowsHidden}
+use Rattle.piece_verdict.specs.HiddenLaws.{verdict_sharper, verdict_each, verdict_single}
 
 -- a certain answer is the verdict of every solution
 pub judged_right : (alert : Alert) (c : Case) (first last : ℤ) → MayBeJudgedAgainst alert c first last → (answer : Piece) → Answers first last (verdict_against alert c first last) answer
@@ -49,3 +53,36 @@ judged_near alert c first last p answer a prn e =
     let w : verdict_against alert c first first ≡ Undecided (Mask prn) = ap (λ t. verdict_against alert c first t) one ∙ sym h.0 in
     let q : MayBeJudged c first first = judged_inside c first last first first p.judged (omega (arith, ints)) (omega (arith, ints)) in
     (one, undecided_is_near (slopes_for (shift_of alert)) (limit_of alert c) c q.case (sight_over c) (sights_hold c q.case) first q.piece prn w)
+
+-- ---- what may be answered by what is known
+-- a verdict that is certain, or of a piece that is one millisecond
+certain_or_one : (v : Verdict) (first last : ℤ) → (is_certain v ≡ false → first ≡ last) → first <ℤ last → is_certain v ≡ true
+certain_or_one v first last one lt = elim (cases_Bool (is_certain v)) [
+  | inl e ↦ e
+  | inr e ↦ absurd (let at : first ≡ last = one e in omega (arith, ints))
+]
+
+-- at each millisecond it is the written verdict
+knowing_at : (alert : Alert) (c : Case) (hidden : List Bool) (first last : ℤ) → MayBeJudgedAgainst alert c first last → first ≤ℤ last → KnowsHidden c hidden first last
+    → (is_certain (verdict_knowing alert c hidden first last) ≡ false → first ≡ last) → (t : ℤ) → first ≤ℤ t → t ≤ℤ last → verdict_against alert c t t ≡ verdict_knowing alert c hidden first last
+knowing_at alert c hidden first last p ordered k one t low high = elim (cases_Bool (is_certain (verdict_knowing alert c hidden first last))) [
+  | inl e ↦ verdict_each alert c hidden first last t p k low high e
+  | inr e ↦
+      let same : first ≡ last = one e in
+      let here : t ≡ first = omega (arith, ints) in
+      ap (λ u. verdict_against alert c u u) here
+      ∙ sym (verdict_single alert c hidden first (subst (λ l. KnowsHidden c hidden first l) (sym same) k))
+      ∙ ap (λ l. verdict_knowing alert c hidden first l) same
+]
+
+pub answers_knowing : (alert : Alert) (c : Case) (hidden : List Bool) (first last : ℤ) → MayBeJudgedAgainst alert c first last → first ≤ℤ last → KnowsHidden c hidden first last → (answer : Piece)
+    → Answers first last (verdict_knowing alert c hidden first last) answer → MayAnswer (verdict_against alert c) first last answer
+answers_knowing alert c hidden first last p ordered k Split a = (a.0, open_ (is_certain (verdict_against alert c first last)) refl)
+  where
+    open_ : (b : Bool) → is_certain (verdict_against alert c first last) ≡ b → is_certain (verdict_against alert c first last) ≡ false
+    open_ false e = e
+    open_ true e = absurd (let s = verdict_sharper alert c hidden first last p ordered k e in let q : true ≡ false = sym e ∙ ap is_certain (sym s) ∙ a.1 in cc)
+answers_knowing alert c hidden first last p ordered k (Decided d) a = (
+  record { each = λ t low high. knowing_at alert c hidden first last p ordered k a.1 t low (omega (arith, ints)) ∙ sym a.0 },
+  λ lt. ap is_certain a.0 ∙ certain_or_one (verdict_knowing alert c hidden first last) first last a.1 lt
+)

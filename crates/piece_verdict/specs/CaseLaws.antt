@@ -22,7 +22,9 @@ use Rattle.piece_verdict.specs.Alerts.{IsAlert, MayBeJudgedAgainst, shift_of, li
 use Rattle.piece_verdict.specs.declared.here.Here.{Here}
 use Rattle.piece_verdict.specs.Here.{IsHere, KnowsHere}
 use Rattle.piece_verdict.specs.LegLaws.{through}
-use Rattle.piece_verdict.specs.Hidden.{AreHidden, KnowsHidden}
+use Rattle.piece_verdict.specs.Hidden.{KnowsHidden, seen_knowing}
+use Rattle.piece_verdict.specs.AlertLaws.{some_limit}
+use Rattle.piece_verdict.specs.HiddenLaws.{knowing_inside}
 use Rattle.piece_verdict.specs.Known.{IsSure, rows_over, factor_for, KnowsSlopes, KnowsLists, Knows}
 use Rattle.slope_laws.specs.Rows.{NamedRowsInside}
 use Rattle.slope_laws.proofs.Kept.{inside_length}
@@ -41,63 +43,48 @@ use Rattle.case_laws.proofs.Looks.{sights_hold}
 pub case_inherits : (alert : Alert) (c : Case) (first last a b : ℤ) → MayBeJudgedAgainst alert c first last → first ≤ℤ a → b ≤ℤ last → MayBeJudgedAgainst alert c a b
 case_inherits alert c first last a b p low high = record { judged = judged_inside c first last a b p.judged low high; held = p.held }
 
--- the alert limit is some millimetres
-pub some_limit : (alert : Alert) → IsAlert alert → (c : Case) → IsCase c → 1 ≤ limit_of alert c
-some_limit Horizontal a c i = i.limits.alert.0
-some_limit (Vertical limit_mm) a c i = a.0
-
 -- a certain verdict is that of each piece inside
 pub case_settles : (alert : Alert) (c : Case) (first last a b : ℤ) → MayBeJudgedAgainst alert c first last → is_certain (verdict_against alert c first last) ≡ true → first ≤ℤ a → a ≤ℤ b → b ≤ℤ last
     → verdict_against alert c a b ≡ verdict_against alert c first last
 case_settles alert c first last a b p certain low ordered high =
     piece_settles (slopes_for (shift_of alert)) (shift_holds (shift_of alert)) c (limit_of alert c) (some_limit alert p.held c p.judged.case) (sight_over c) (sights_hold c p.judged.case) first last a b p.judged.piece certain low ordered high
 
--- the almanac in force is one of several
-force_listed : (t : ℤ) (almanacs : List (List AlmRecord)) → 1 ≤ length almanacs → Contains almanacs (in_force t almanacs)
-force_listed t [] h = absurd (omega arith)
-force_listed t (a ∷ rest) h = is_one t (a ∷ rest) (in_force t (a ∷ rest)) (nearest_first t a rest)
-
 -- the satellites that are hidden over a piece are so over each piece inside
 pub hidden_stays : (c : Case) (places : List Bool) (first last a b : ℤ) → MayBeJudged c first last → KnowsHidden c places first last → first ≤ℤ a → a ≤ℤ b → b ≤ℤ last → KnowsHidden c places a b
 hidden_stays c places first last a b p knows low ordered high =
     let e : in_force a c.almanacs ≡ in_force first c.almanacs = force_same c first last a p.piece low (omega (arith, ints)) in
-    let holds : HoldsSights c (sight_over c) = sights_hold c p.case in
-    subst (λ recs. AreHidden (λ rec. sight_over c rec a b) recs places) (sym e)
-    (λ k d lt t.
-    let rec : AlmRecord = slice_index_or (in_force first c.almanacs) k d in
-    let listed : IsListed c rec = record { almanac = in_force first c.almanacs; is = force_listed first c.almanacs p.case.almanacs.some; has = All-contains_itself (in_force first c.almanacs) k d lt } in
-    subst (λ w. LeavesSight w (sight_over c rec a b)) (knows k d lt t) (holds.isotone first last a b p.piece low ordered high rec listed))
+    λ rec h m t from to. knows rec (subst (λ recs. Contains recs rec) e h) m t (omega (arith, ints)) (omega (arith, ints))
 
 -- where each usable satellite is visible or hidden throughout, it is so over each piece inside, with the same rows inside
-same_inside : (c : Case) (marks : List Bool) (first last a b : ℤ) → MayBeJudged c first last → IsSure c marks first last → first ≤ℤ a → a ≤ℤ b → b ≤ℤ last
-    → (i : ℕ) → slice_index_or marks i false ≡ true → SameSeen (seen_of c first last) (seen_of c a b)
-same_inside c marks first last a b p sure low ordered high i t = seen_inside c (sight_over c) (sights_hold c p.case) first last a b p.piece low ordered high (sure i t)
+same_inside : (c : Case) (hidden marks : List Bool) (first last a b : ℤ) → MayBeJudged c first last → IsSure c hidden marks first last → first ≤ℤ a → a ≤ℤ b → b ≤ℤ last
+    → (i : ℕ) → slice_index_or marks i false ≡ true → SameSeen (seen_knowing c hidden first last) (seen_knowing c hidden a b)
+same_inside c hidden marks first last a b p sure low ordered high i t = knowing_inside c hidden first last a b p low ordered high (sure i t)
 
 -- the slopes that pass over a piece do so over each piece inside
-slopes_inside : (alert : Alert) (c : Case) (marks : List Bool) (first last a b : ℤ) → MayBeJudgedAgainst alert c first last → KnowsSlopes alert c marks first last → first ≤ℤ a → a ≤ℤ b → b ≤ℤ last → KnowsSlopes alert c marks a b
-slopes_inside alert c marks first last a b p knows low ordered high =
-    let same = same_inside c marks first last a b p.judged knows.sure low ordered high in
+slopes_inside : (alert : Alert) (c : Case) (hidden marks : List Bool) (first last a b : ℤ) → MayBeJudgedAgainst alert c first last → KnowsSlopes alert c hidden marks first last → first ≤ℤ a → a ≤ℤ b → b ≤ℤ last → KnowsSlopes alert c hidden marks a b
+slopes_inside alert c hidden marks first last a b p knows low ordered high =
+    let same = same_inside c hidden marks first last a b p.judged knows.sure low ordered high in
     record {
       sure = λ i t. (same i t).none;
       pass = λ i row lt t.
-          let inside : NamedRowsInside (rows_over c a b) (rows_over c first last) = (same i t).rows in
-          let n : length (rows_over c a b) ≡ length (rows_over c first last) = inside_length (rows_over c a b) (rows_over c first last) inside in
-          subst (λ m. SlopesPass (shift_of alert) (rows_over c a b) (factor_for alert c m) marks) (sym n)
-          (slopes_stay (shift_of alert) (rows_over c a b) (rows_over c first last) (factor_for alert c (length (rows_over c first last))) marks (kappa_inside c.limits (limit_of alert c) (length (rows_over c first last)) (some_limit alert p.held c p.judged.case)) inside knows.pass)
+          let inside : NamedRowsInside (rows_over c hidden a b) (rows_over c hidden first last) = (same i t).rows in
+          let n : length (rows_over c hidden a b) ≡ length (rows_over c hidden first last) = inside_length (rows_over c hidden a b) (rows_over c hidden first last) inside in
+          subst (λ m. SlopesPass (shift_of alert) (rows_over c hidden a b) (factor_for alert c m) marks) (sym n)
+          (slopes_stay (shift_of alert) (rows_over c hidden a b) (rows_over c hidden first last) (factor_for alert c (length (rows_over c hidden first last))) marks (kappa_inside c.limits (limit_of alert c) (length (rows_over c hidden first last)) (some_limit alert p.held c p.judged.case)) inside knows.pass)
           i row lt t;
     }
 
 -- and so do the lists without a row
-lists_inside : (alert : Alert) (c : Case) (marks : List Bool) (first last a b : ℤ) → MayBeJudgedAgainst alert c first last → KnowsLists alert c marks first last → first ≤ℤ a → a ≤ℤ b → b ≤ℤ last → KnowsLists alert c marks a b
-lists_inside alert c marks first last a b p knows low ordered high =
-    let same = same_inside c marks first last a b p.judged knows.sure low ordered high in
+lists_inside : (alert : Alert) (c : Case) (hidden marks : List Bool) (first last a b : ℤ) → MayBeJudgedAgainst alert c first last → KnowsLists alert c hidden marks first last → first ≤ℤ a → a ≤ℤ b → b ≤ℤ last → KnowsLists alert c hidden marks a b
+lists_inside alert c hidden marks first last a b p knows low ordered high =
+    let same = same_inside c hidden marks first last a b p.judged knows.sure low ordered high in
     record {
       sure = λ i t. (same i t).none;
       pass = λ i lt t.
-          let inside : NamedRowsInside (rows_over c a b) (rows_over c first last) = (same i t).rows in
-          let n : length (rows_over c a b) ≡ length (rows_over c first last) = inside_length (rows_over c a b) (rows_over c first last) inside in
-          subst (λ m. ListsPass (shift_of alert) (rows_over c a b) (factor_for alert c (m - 1)) marks) (sym n)
-          (lists_stay (shift_of alert) (rows_over c a b) (rows_over c first last) (factor_for alert c (length (rows_over c first last) - 1)) marks (kappa_inside c.limits (limit_of alert c) (length (rows_over c first last) - 1) (some_limit alert p.held c p.judged.case)) inside knows.pass)
+          let inside : NamedRowsInside (rows_over c hidden a b) (rows_over c hidden first last) = (same i t).rows in
+          let n : length (rows_over c hidden a b) ≡ length (rows_over c hidden first last) = inside_length (rows_over c hidden a b) (rows_over c hidden first last) inside in
+          subst (λ m. ListsPass (shift_of alert) (rows_over c hidden a b) (factor_for alert c (m - 1)) marks) (sym n)
+          (lists_stay (shift_of alert) (rows_over c hidden a b) (rows_over c hidden first last) (factor_for alert c (length (rows_over c hidden first last) - 1)) marks (kappa_inside c.limits (limit_of alert c) (length (rows_over c hidden first last) - 1) (some_limit alert p.held c p.judged.case)) inside knows.pass)
           i lt t;
     }
 
@@ -123,6 +110,6 @@ pub known_stays : (alert : Alert) (c : Case) (known : Known) (first last a b : �
 known_stays alert c known first last a b p knows low ordered high = record {
   here = here_stays c known.here first last a b p.judged knows.here low ordered high;
   hidden = hidden_stays c known.hidden.places first last a b p.judged knows.hidden low ordered high;
-  slopes = slopes_inside alert c known.slopes.places first last a b p knows.slopes low ordered high;
-  lists = lists_inside alert c known.lists.places first last a b p knows.lists low ordered high;
+  slopes = slopes_inside alert c known.hidden.places known.slopes.places first last a b p knows.slopes low ordered high;
+  lists = lists_inside alert c known.hidden.places known.lists.places first last a b p knows.lists low ordered high;
 }

@@ -7,6 +7,8 @@ pub mod Views
 pub mod Alerts
 pub mod Hidden
 pub mod Known
+pub mod AlertLaws
+pub mod HiddenLaws
 pub mod CaseLaws
 pub mod LegLaws
 pub mod Here

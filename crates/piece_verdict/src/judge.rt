@@ -7,7 +7,7 @@ ghost use Rattle.raim_model.specs.CaseCuts.{CutsFlight};
 ghost use Rattle.raim_model.specs.Cuts.{AreCuts};
 ghost use Rattle.raim_model.specs.Solution.{Solution};
 ghost use Rattle.verdict_laws.specs.NearMask.{IsNearMaskAlways};
-ghost use Rattle.piece_verdict.specs.Alerts.{IsAlert, MayBeJudgedAgainst, verdict_against, HasVerdictAgainst};
+ghost use Rattle.piece_verdict.specs.Alerts.{IsAlert, MayBeJudgedAgainst, verdict_against, verdict_knowing, HasVerdictAgainst};
 ghost use Rattle.piece_verdict.specs.CaseLaws.{case_inherits, case_settles, known_stays};
 ghost use Rattle.piece_verdict.specs.Known.{Knows};
 
@@ -42,7 +42,7 @@ fn answer(verdict: Verdict, first: i64, last: i64) -> Piece
 }
 
 impl Case {
-    /// The verdict on a piece of which this is known, held against this; what is found of it is known then. The rows are kept in
+    /// The verdict on a piece by what is known of it, held against this; what is found of it is known then. The rows are kept in
     /// `seen`, whatever stood there.
     fn verdict(
         &self,
@@ -56,7 +56,7 @@ impl Case {
         requires ordered { first ≤ℤ last }
         requires rule { MayBeJudged self.now first last }
         requires known { Knows alert self.now known.old first last }
-        ensures value { result ≡ verdict_against alert self.now first last }
+        ensures value { result ≡ verdict_knowing alert self.now known.old.hidden.places first last }
         ensures known { Knows alert self.now known.new first last }
     {
         seen.clear();

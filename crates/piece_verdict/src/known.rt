@@ -1,5 +1,5 @@
 // What is known of a piece of time.
-ghost use Rattle.std.specs.Prelude.{ℤ};
+ghost use Rattle.std.specs.Prelude.{◌≡◌, ℕ, ℤ, slice_index_or, false};
 ghost use Rattle.raim_model.specs.Solution.{Case};
 ghost use Rattle.piece_verdict.specs.declared.alert.Alert.{Alert};
 ghost use Rattle.piece_verdict.specs.Known.{Knows};
@@ -12,7 +12,7 @@ use slope_test::Marks;
 pub struct Known {
     /// The leg and the almanac in force.
     pub(crate) here: Option<Here>,
-    /// The places in the almanac in force of satellites that are hidden.
+    /// The satellites that are hidden at each millisecond, number n at place n - 1.
     pub(crate) hidden: Marks,
     /// The rows whose slopes pass.
     pub(crate) slopes: Marks,
@@ -23,7 +23,8 @@ pub struct Known {
 impl Known {
     /// Nothing.
     pub(crate) fn nothing() -> Known
-        ensures { (alert : Alert) (c : Case) (first last : ℤ) → Knows alert c result first last }
+        ensures knows { (alert : Alert) (c : Case) (first last : ℤ) → Knows alert c result first last }
+        ensures none { (k : ℕ) → slice_index_or result.hidden.places k false ≡ false }
     {
         Known {
             here: None,

@@ -1,5 +1,5 @@
 // A satellite of an almanac, with its orbit.
-ghost use Rattle.std.specs.Prelude.{◌≡◌, ◌^◌, ◌≤ℤ◌};
+ghost use Rattle.std.specs.Prelude.{◌≡◌, ◌<◌, ◌-◌, ◌^◌, ◌≤ℤ◌};
 ghost use Rattle.fix_interval.specs.Vectors.{vector_ends, VectorBelow};
 ghost use Rattle.orbit_laws.specs.Positions.{position_of};
 ghost use Rattle.raim_model.specs.AlmanacRanges.{IsAlmRecord, IsApplicable};
@@ -29,7 +29,9 @@ impl Model for Satellite {
 
     ghost view = { λ s. s.rec };
 
-    ghost invariant = { λ s. s.orbit ≡ s.rec };
+    ghost use Rattle.piece_verdict.specs.KeptCases.{IsKeptSatellite};
+
+    ghost invariant = { λ s. IsKeptSatellite s.rec s.orbit };
 }
 
 impl Satellite {
@@ -50,6 +52,14 @@ impl Satellite {
         ensures { result ≡ self.now.prn }
     {
         self.rec.prn
+    }
+
+    /// The place of its number among marks, from 0.
+    pub(crate) fn place(&self) -> usize
+        ensures value { result ≡ self.now.prn - 1 }
+        ensures small { result < 32 }
+    {
+        self.rec.prn as usize - 1
     }
 
     /// Whether it counts at the millisecond `t`.

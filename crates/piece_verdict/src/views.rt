@@ -1,14 +1,14 @@
 // What is seen over a piece of time of a case's flight.
 ghost use Rattle.std.specs.Prelude.{◌≡◌, ◌≤ℤ◌, []};
 ghost use Rattle.raim_model.specs.declared.almanac.AlmRecord.{AlmRecord};
+ghost use Rattle.raim_model.specs.AlmanacInForce.{in_force};
 ghost use Rattle.raim_model.specs.CaseCuts.{MayBeJudged};
 ghost use Rattle.raim_model.specs.PointVerdict.{least_count};
 ghost use Rattle.site_laws.specs.Frames.{IsFrame};
 ghost use Rattle.wgs_position.specs.Frames.{frame_ends};
-ghost use Rattle.case_laws.specs.PieceVerdict.{seen_of};
 ghost use Rattle.case_laws.specs.SightOver.{mask_of, sight_over};
 ghost use Rattle.piece_verdict.specs.Here.{IsHere};
-ghost use Rattle.piece_verdict.specs.Hidden.{KnowsHidden};
+ghost use Rattle.piece_verdict.specs.Hidden.{seen_knowing, AddsHidden};
 ghost use Rattle.piece_verdict.specs.Looks.{AreLooks};
 ghost use Rattle.piece_verdict.specs.Seen.{looks_with, IsSeen};
 ghost use Rattle.piece_verdict.specs.Views.{seen_from};
@@ -36,7 +36,7 @@ impl Case {
     }
 
     /// What the test makes of the satellites that are usable, where some are known to be hidden; those that are found to be
-    /// hidden are known then. The rows are kept in `seen`.
+    /// hidden over the piece are known then. The rows are kept in `seen`.
     pub(crate) fn looked(
         &self,
         here: Here,
@@ -48,10 +48,9 @@ impl Case {
         requires ordered { first ≤ℤ last }
         requires rule { MayBeJudged self.now first last }
         requires here { IsHere self.now here first }
-        requires known { KnowsHidden self.now known.old.places first last }
         requires none { IsSeen seen.old [] }
-        ensures looks { AreLooks (least_count self.now.limits.exclude) (seen_of self.now first last) (looks_with result seen.new) }
-        ensures known { KnowsHidden self.now known.new.places first last }
+        ensures looks { AreLooks (least_count self.now.limits.exclude) (seen_knowing self.now known.old.places first last) (looks_with result seen.new) }
+        ensures known { AddsHidden (λ rec. sight_over self.now rec first last) (in_force first self.now.almanacs) known.old.places known.new.places }
     {
         let needed = needed(&self.limits);
         let frame = self.receiver(here, first, last);

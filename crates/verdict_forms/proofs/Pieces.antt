@@ -1,5 +1,5 @@
 -- What forms tell of a piece of a case is the written verdict of each of its milliseconds.
-use Rattle.std.specs.Prelude.{◌≡◌, ℕ, ℤ, pos, ◌≤ℤ◌, ◌<ℤ◌, List, [], ◌∷◌, map, Some, refl}
+use Rattle.std.specs.Prelude.{◌≡◌, ℕ, ℤ, pos, ◌≤ℤ◌, ◌<ℤ◌, List, [], ◌∷◌, length, map, Some, refl}
 use Rattle.std.specs.List.{AllByRecursion}
 use Rattle.std.proofs.Common.{arith, sym, subst}
 use Rattle.std.proofs.lemmas.Int.{ints}
@@ -29,7 +29,7 @@ use Rattle.case_laws.proofs.Stretches.{leg_found, leg_points}
 use Rattle.time_forms.specs.Forms.{Form, IsTime}
 use Rattle.orbit_forms.specs.Positions.{VectorForm, VectorHolds}
 use Rattle.look_forms.specs.Frames.{FrameForm, FrameHolds}
-use Rattle.verdict_forms.specs.Sights.{SightTold, SightHolds, SeenHold, sight_form}
+use Rattle.verdict_forms.specs.Sights.{SightTold, SightHolds, SeenHold, sight_form, form_rows}
 use Rattle.slope_forms.specs.Told.{TellsVerdict}
 use Rattle.verdict_forms.specs.Verdicts.{verdict_told, AreSafe}
 use Rattle.verdict_forms.proofs.Sights.{sight_held}
@@ -61,8 +61,9 @@ seen_held h d c told sight each (rec ∷ recs) l = (each rec l.0, seen_held h d 
 -- what forms tell of the satellites that are usable at the first millisecond of a piece inside a root piece tells the written verdict
 -- of each of its milliseconds
 pub piece_tells : {h : ℕ} {d : ℤ} (shift : Shift) (alert_mm : ℕ) (c : Case) → IsCase c → (first last t : ℤ) → InRootPiece c first last → first ≤ℤ t → t ≤ℤ last
-    → (told : AlmRecord → SightTold) → IsTime h d → AreSafe c.limits alert_mm → ((rec : AlmRecord) → IsListed c rec → SightHolds h d (told rec) (sight_over c rec t t))
+    → (told : AlmRecord → SightTold) → IsTime h d → AreSafe c.limits alert_mm (length (form_rows (map told (usable c first)))) → ((rec : AlmRecord) → IsListed c rec → SightHolds h d (told rec) (sight_over c rec t t))
     → TellsVerdict (verdict_told shift c.limits alert_mm (map told (usable c first))) (verdict_by_test (slopes_for shift) alert_mm c t t)
 piece_tells {h} {d} shift alert_mm c i first last t p low high told time quick each =
-    subst (λ recs. TellsVerdict (verdict_told shift c.limits alert_mm (map told recs)) (verdict_by_test (slopes_for shift) alert_mm c t t)) (usable_same c first last t p low high)
-    (flight_tells shift alert_mm c t (map told (usable c t)) time quick (seen_held h d c told (λ rec. sight_over c rec t t) each (usable c t) (usable_recorded c t)) (seen_small c i t (inside_root c first last t t p low high)))
+    let same = usable_same c first last t p low high in
+    subst (λ recs. TellsVerdict (verdict_told shift c.limits alert_mm (map told recs)) (verdict_by_test (slopes_for shift) alert_mm c t t)) same
+    (flight_tells shift alert_mm c t (map told (usable c t)) time (subst (λ recs. AreSafe c.limits alert_mm (length (form_rows (map told recs)))) (sym same) quick) (seen_held h d c told (λ rec. sight_over c rec t t) each (usable c t) (usable_recorded c t)) (seen_small c i t (inside_root c first last t t p low high)))

@@ -71,21 +71,22 @@ known h d [] (s ∷ ss) v u = absurd v
 known h d (f ∷ fs) [] v u = absurd v
 
 -- ---- the test
-chosen : (b : Bool) (t u : Told) (v w : Verdict) → TellsVerdict t v → TellsVerdict u w → TellsVerdict (if b then t else u) (if b then v else w)
-chosen true t u v w p q = p
-chosen false t u v w p q = q
-
-test_tells : {h : ℕ} {d : ℤ} (shift : Shift) (limits : Limits) (alert_mm : ℕ) (fs : List RowForm) (rows : List NamedRow) → IsTime h d → AreSafe limits alert_mm → RowsHold h d fs (ends_of rows) → AreSmall rows
+test_tells : {h : ℕ} {d : ℤ} (shift : Shift) (limits : Limits) (alert_mm : ℕ) (fs : List RowForm) (rows : List NamedRow) → IsTime h d → AreSafe limits alert_mm (length fs) → RowsHold h d fs (ends_of rows) → AreSmall rows
     → TellsVerdict (test_told shift limits alert_mm fs) (test_by (slopes_for shift) limits alert_mm rows)
+unfolding kappa_over
 test_tells {h} {d} shift limits alert_mm fs rows t quick v s =
-    let held : (k : ℕ) → Holds h d (fixed_of (kappa_over limits alert_mm k)) (kappa_over limits alert_mm k) = λ k. fixed_holds h d (kappa_over limits alert_mm k) (quick k).ordered in
-    rw (held_length h d fs rows v)
-    (chosen limits.exclude _ _ _ _
-    (exclude_tells shift fs rows (fixed_of (kappa_over limits alert_mm (length fs))) (fixed_of (kappa_over limits alert_mm (length fs - 1))) (kappa_over limits alert_mm (length fs)) (kappa_over limits alert_mm (length fs - 1)) t v s (held (length fs)) (quick (length fs)) (held (length fs - 1)) (quick (length fs - 1)))
-    (detect_tells shift fs rows (fixed_of (kappa_over limits alert_mm (length fs))) (kappa_over limits alert_mm (length fs)) t v s (held (length fs)) (quick (length fs))))
+    let n : ℕ = length fs in
+    let all : Holds h d (fixed_of (kappa_over limits alert_mm n)) (kappa_over limits alert_mm n) = fixed_holds h d (kappa_over limits alert_mm n) quick.all.ordered in
+    elim (cases_Bool limits.exclude) [
+      | inl e ↦
+          let less : IsInside (kappa_over limits alert_mm (n - 1)) safe_factors = quick.fewer e in
+          rw (held_length h d fs rows v, e)
+          (exclude_tells shift fs rows (fixed_of (kappa_over limits alert_mm n)) (fixed_of (kappa_over limits alert_mm (n - 1))) (kappa_over limits alert_mm n) (kappa_over limits alert_mm (n - 1)) t v s all quick.all (fixed_holds h d (kappa_over limits alert_mm (n - 1)) less.ordered) less)
+      | inr e ↦ rw (held_length h d fs rows v, e) (detect_tells shift fs rows (fixed_of (kappa_over limits alert_mm n)) (kappa_over limits alert_mm n) t v s all quick.all)
+    ]
 
 -- ---- the verdict
-pub verdict_tells : {h : ℕ} {d : ℤ} (shift : Shift) (limits : Limits) (alert_mm : ℕ) (fs : List SightTold) (ss : List Sighted) → IsTime h d → AreSafe limits alert_mm → SeenHold h d fs ss → AreSmall (rows_seen ss)
+pub verdict_tells : {h : ℕ} {d : ℤ} (shift : Shift) (limits : Limits) (alert_mm : ℕ) (fs : List SightTold) (ss : List Sighted) → IsTime h d → AreSafe limits alert_mm (length (form_rows fs)) → SeenHold h d fs ss → AreSmall (rows_seen ss)
     → TellsVerdict (verdict_told shift limits alert_mm fs) (verdict_by (slopes_for shift) limits alert_mm ss)
 unfolding verdict_told verdict_by
 verdict_tells {h} {d} shift limits alert_mm fs ss t quick v small = elim (cases_Bool (nat_lt (told_possible fs) (least_count limits.exclude))) [
@@ -100,7 +101,7 @@ verdict_tells {h} {d} shift limits alert_mm fs ss t quick v small = elim (cases_
 ]
 
 -- of a flight at t
-pub flight_tells : {h : ℕ} {d : ℤ} (shift : Shift) (alert_mm : ℕ) (c : Case) (t : ℤ) (fs : List SightTold) → IsTime h d → AreSafe c.limits alert_mm → SeenHold h d fs (seen_of c t t) → AreSmall (rows_seen (seen_of c t t))
+pub flight_tells : {h : ℕ} {d : ℤ} (shift : Shift) (alert_mm : ℕ) (c : Case) (t : ℤ) (fs : List SightTold) → IsTime h d → AreSafe c.limits alert_mm (length (form_rows fs)) → SeenHold h d fs (seen_of c t t) → AreSmall (rows_seen (seen_of c t t))
     → TellsVerdict (verdict_told shift c.limits alert_mm fs) (verdict_by_test (slopes_for shift) alert_mm c t t)
 unfolding piece_verdict_by
 flight_tells shift alert_mm c t fs time quick v small = verdict_tells shift c.limits alert_mm fs (seen_of c t t) time quick v small

@@ -1,5 +1,5 @@
 -- The verdict of a piece of time by what forms tell of the satellites.
-use Rattle.std.specs.Prelude.{ℕ, ◌-◌, if◌then◌else◌, nat_lt, List, length}
+use Rattle.std.specs.Prelude.{◌≡◌, ℕ, ◌-◌, true, if◌then◌else◌, nat_lt, List, length}
 use Rattle.raim_model.specs.declared.limits.Limits.{Limits}
 use Rattle.raim_model.specs.declared.verdict.Why.TheVariants.{Few}
 use Rattle.raim_model.specs.PointVerdict.{least_count}
@@ -25,6 +25,7 @@ verdict_told shift limits alert_mm seen =
     if nat_lt (told_possible seen) (least_count limits.exclude) then failing Few
     else if some_unsure seen then unknown else test_told shift limits alert_mm (form_rows seen)
 
--- all factors are at most 2^47 units: no product leaves 128 bits
-abbrev pub AreSafe : Limits → (alert_mm : ℕ) → Type 0
-AreSafe limits alert_mm = (n : ℕ) → IsInside (kappa_over limits alert_mm n) safe_factors
+-- the factors of the test of n rows are at most 2^47 units: no product leaves 128 bits
+pub record AreSafe (limits : Limits) (alert_mm n : ℕ) : Type 0 where
+  pub all : IsInside (kappa_over limits alert_mm n) safe_factors
+  pub fewer : limits.exclude ≡ true → IsInside (kappa_over limits alert_mm (n - 1)) safe_factors

@@ -1,5 +1,5 @@
 // Laws of verdicts by forms, each the contract of a function that does nothing.
-ghost use Rattle.std.specs.Prelude.{ℕ, ℤ, ◌≤ℤ◌, map};
+ghost use Rattle.std.specs.Prelude.{ℕ, ℤ, ◌≤ℤ◌, length, map};
 ghost use Rattle.raim_model.specs.declared.almanac.AlmRecord.{AlmRecord};
 ghost use Rattle.raim_model.specs.CaseCuts.{InRootPiece};
 ghost use Rattle.raim_model.specs.CaseRanges.{IsCase, IsListed};
@@ -15,7 +15,7 @@ ghost use Rattle.time_forms.specs.Forms.{IsTime};
 ghost use Rattle.orbit_forms.specs.Positions.{VectorForm, VectorHolds};
 ghost use Rattle.look_forms.specs.Frames.{FrameForm, FrameHolds};
 ghost use Rattle.slope_forms.specs.Told.{TellsVerdict};
-ghost use Rattle.verdict_forms.specs.Sights.{SightTold, SightHolds, sight_form};
+ghost use Rattle.verdict_forms.specs.Sights.{SightTold, SightHolds, sight_form, form_rows};
 ghost use Rattle.verdict_forms.specs.Verdicts.{AreSafe, verdict_told};
 
 /// Where the forms of a frame hold the written frame of a millisecond, and those of a place the written place of a satellite, what they
@@ -27,9 +27,9 @@ pub fn sights_of_forms_hold()
 {}
 
 /// What forms tell of the satellites that are usable at the first millisecond of a piece tells the written verdict of each of its
-/// milliseconds, of either shift, where the piece lies inside a root piece and all factors are at most 512.
+/// milliseconds, of either shift, where the piece lies inside a root piece and the factors of the test are at most 512.
 pub fn verdicts_of_forms_tell()
     ensures { (h : ℕ) (d : ℤ) (shift : Shift) (alert_mm : ℕ) (c : Case) → IsCase c → (first last t : ℤ) → InRootPiece c first last → first ≤ℤ t → t ≤ℤ last
-        → (told : AlmRecord → SightTold) → IsTime h d → AreSafe c.limits alert_mm → ((rec : AlmRecord) → IsListed c rec → SightHolds h d (told rec) (sight_over c rec t t))
+        → (told : AlmRecord → SightTold) → IsTime h d → AreSafe c.limits alert_mm (length (form_rows (map told (usable c first)))) → ((rec : AlmRecord) → IsListed c rec → SightHolds h d (told rec) (sight_over c rec t t))
         → TellsVerdict (verdict_told shift c.limits alert_mm (map told (usable c first))) (verdict_by_test (slopes_for shift) alert_mm c t t) }
 {}

@@ -1,14 +1,12 @@
-use Rattle.raim_model.specs.AlmanacInForce.{in_force}
-use Rattle.case_laws.specs.SightOver.{sight_over}
 use Rattle.slope_test.proofs.MarkLemmas.{none_marked}
 use Rattle.piece_verdict.proofs.HiddenLemmas.{none_hidden}
 use Rattle.piece_verdict.proofs.known.Known.nothing.Goals as goal
 
-pub returns : goal.returns
-returns c = λ alert flight first last.
+pub returns-clause-knows : goal.returns-clause-knows
+returns-clause-knows c = λ alert flight first last.
     record {
       here = tt;
-      hidden = none_hidden (λ r. sight_over flight r first last) (in_force first flight.almanacs) _ c.none.ensures;
+      hidden = none_hidden flight first last _ c.none.ensures;
       slopes = record { sure = λ i t. absurd (none_marked _ c.none-2.ensures i t); pass = λ i row lt t. absurd (none_marked _ c.none-2.ensures i t) };
       lists = record { sure = λ i t. absurd (none_marked _ c.none-3.ensures i t); pass = λ i lt t. absurd (none_marked _ c.none-3.ensures i t) };
     }
