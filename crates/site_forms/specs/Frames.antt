@@ -1,5 +1,5 @@
 -- Forms of the receiver's position and of its directions to the east, to the north and up.
-use Rattle.std.specs.Prelude.{pos, Option, Some}
+use Rattle.std.specs.Prelude.{ℕ, pos, Option, Some}
 use Rattle.fix_interval.specs.Ranges.{point, one_ends}
 use Rattle.fix_interval.specs.Sums.{sub_of}
 use Rattle.site_laws.specs.Frames.{one_wide, eccentricity_ends, axis_ends}
@@ -10,7 +10,7 @@ use Rattle.time_forms.specs.QuotientForms.{checked_div_form}
 use Rattle.time_forms.specs.Programs.{short_of}
 use Rattle.orbit_forms.specs.Positions.{PairForm, VectorForm}
 use Rattle.angle_forms.specs.Checked.{◌>>=◌, checked_sin_cos}
-use Rattle.angle_forms.specs.Vectors.{vector_form}
+use Rattle.angle_forms.specs.Vectors.{vector_form, IsVectorWithin}
 use Rattle.site_forms.specs.Places.{PlaceForm}
 use Rattle.look_forms.specs.Frames.{FrameForm}
 use Rattle.site_forms.specs.declared.time_frame.TimeFrame.{TimeFrame}
@@ -18,6 +18,13 @@ use Rattle.site_forms.specs.declared.time_frame.TimeFrame.{TimeFrame}
 -- how contracts see those of the program
 abbrev pub frame_form : TimeFrame → FrameForm
 frame_form f = record { position = vector_form f.position; east = vector_form f.east; north = vector_form f.north; up = vector_form f.up }
+
+-- the numbers of each have a magnitude of at most m
+pub record IsFrameWithin (f : FrameForm) (m : ℕ) : Type 0 where
+  pub position : IsVectorWithin f.position m
+  pub east : IsVectorWithin f.east m
+  pub north : IsVectorWithin f.north m
+  pub up : IsVectorWithin f.up m
 
 -- ---- the ellipsoid, where each number on the way fits 64 bits, and otherwise none
 -- sqrt(1 - e^2 sin^2 phi), for the sine of the latitude

@@ -1,9 +1,10 @@
 // Where a flight is over a piece of time.
 
-ghost use Rattle.std.specs.Prelude.{◌≡◌, ℤ, pos, ◌+◌, ◌<◌, ◌^◌, ◌+ℤ◌, ◌-ℤ◌, ◌≤ℤ◌, ◌<ℤ◌, length, slice_index_or, unsigned_abs, IfSome};
+ghost use Rattle.std.specs.Prelude.{◌≡◌, ℤ, pos, ◌+◌, ◌<◌, ◌^◌, ◌+ℤ◌, ◌≤ℤ◌, ◌<ℤ◌, length, slice_index_or, unsigned_abs, IfSome};
 ghost use Rattle.std.specs.Option.{option_map};
 ghost use Rattle.raim_model.specs.declared.Waypoint.{Waypoint};
 ghost use Rattle.raim_model.specs.Route.{time_at};
+ghost use Rattle.raim_model.specs.Constants.{day_ms};
 ghost use Rattle.raim_model.specs.Ranges.{IsWaypoint};
 ghost use Rattle.site_laws.specs.Places.{place_over_of};
 ghost use Rattle.time_forms.specs.Forms.{IsTime};
@@ -42,19 +43,23 @@ fn between(leg: &Leg, start: &Waypoint, stop: &Waypoint) -> Option<TimePlace>
     Some(TimePlace { lat, lon, height })
 }
 
-/// Where a flight is over the piece from the millisecond `middle - half` to `middle + half`, which lies on leg `leg` of its
-/// route: from waypoint `leg`, counted from 0, until before the next one's time. Latitude, longitude and height each run
-/// straight between the two waypoints, longitudes as they are written. Times are in milliseconds since the GPS epoch, latitude
-/// and longitude in turns and the height in megametres, in units of 2^-38. None where a number would be 2^58 or more in size.
+/// Where a flight is over the piece from the millisecond `middle - half` to `middle + half`, by the line of leg `leg` of its
+/// route, which goes from waypoint `leg`, counted from 0, until before the next one's time and has the middle on it: so a piece
+/// may begin before its leg or end after it, and at those milliseconds nothing is said of the flight. Latitude, longitude and
+/// height each run straight between the two waypoints, longitudes as they are written. Times are in milliseconds since the GPS
+/// epoch, latitude and longitude in turns and the height in megametres, in units of 2^-38. None where a number would be 2^58 or
+/// more in size.
 pub fn place_over(route: &Route, leg: usize, middle: i64, half: i64) -> Option<TimePlace>
     requires leg { leg + 1 < length route.now }
     requires half_positive { pos 1 ≤ℤ half }
-    requires started { time_at route.now leg ≤ℤ (middle -ℤ half) }
-    requires not_over { (middle +ℤ half) <ℤ time_at route.now (leg + 1) }
+    requires half_short { half ≤ℤ pos day_ms }
+    requires started { time_at route.now leg ≤ℤ middle }
+    requires not_over { middle <ℤ time_at route.now (leg + 1) }
     ensures exact { (w : Waypoint) → option_map place_form result
         ≡ checked_place_over (slice_index_or route.now leg w) (slice_index_or route.now (leg + 1) w) middle (unsigned_abs half) }
-    // it holds the interval place of each millisecond of the piece
+    // it holds the interval place of each millisecond of the piece that lies on the leg
     ensures holds { (w : Waypoint) (d : ℤ) → IsTime (unsigned_abs half) d
+        → time_at route.now leg ≤ℤ (middle +ℤ d) → (middle +ℤ d) <ℤ time_at route.now (leg + 1)
         → IfSome result (λ p. PlaceHolds (unsigned_abs half) d (place_form p)
         (place_over_of (slice_index_or route.now leg w) (slice_index_or route.now (leg + 1) w) (middle +ℤ d) (middle +ℤ d))) }
     // it is one that a frame may be asked for

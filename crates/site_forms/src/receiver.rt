@@ -9,7 +9,7 @@ ghost use Rattle.site_laws.specs.Frames.{frame_of};
 ghost use Rattle.angle_forms.specs.Pairs.{pair_form, IsPairWithin};
 ghost use Rattle.site_forms.specs.Places.{place_form, PlaceHolds, IsPlaceWithin};
 ghost use Rattle.look_forms.specs.Frames.{FrameHolds};
-ghost use Rattle.site_forms.specs.Frames.{frame_form, checked_frame_at, checked_frame};
+ghost use Rattle.site_forms.specs.Frames.{frame_form, IsFrameWithin, checked_frame_at, checked_frame};
 
 use crate::directions::{east, north, up};
 use crate::position::position;
@@ -23,7 +23,8 @@ fn frame_at(height: TimeForm, lat: SineCosine, lon: SineCosine) -> Option<TimeFr
     requires height_small { IsFormWithin (form height) (2 ^ 58) }
     requires lat_small { IsPairWithin (pair_form lat) (2 ^ 58) }
     requires lon_small { IsPairWithin (pair_form lon) (2 ^ 58) }
-    ensures { option_map frame_form result ≡ checked_frame_at (form height) (pair_form lat) (pair_form lon) }
+    ensures exact { option_map frame_form result ≡ checked_frame_at (form height) (pair_form lat) (pair_form lon) }
+    ensures small { IfSome result (λ f. IsFrameWithin (frame_form f) (2 ^ 58)) }
 {
     let position = position(height, lat, lon)?;
     let north = north(lat, lon)?;
@@ -46,6 +47,8 @@ pub fn frame(place: &TimePlace) -> Option<TimeFrame>
     // it holds the interval frame of each place that the place's form holds
     ensures holds { (h : ℕ) (d : ℤ) (p : PlaceEnds) → IsTime h d → PlaceHolds h d (place_form place.now) p
         → IfSome result (λ f. FrameHolds h d (frame_form f) (frame_of p)) }
+    // it is one from which a look may be asked for
+    ensures small { IfSome result (λ f. IsFrameWithin (frame_form f) (2 ^ 58)) }
 {
     let lat = sin_cos(place.lat)?;
     let lon = sin_cos(place.lon)?;

@@ -1,12 +1,9 @@
-use Rattle.std.proofs.Common.{arith, rules, ap₂, subst, ◌∙◌, ◌+◌, ℕ, ℤ, pos, ◌+ℤ◌, ◌-ℤ◌, ◌≤ℤ◌, ◌<ℤ◌, unsigned_abs, get_or}
+use Rattle.std.proofs.Common.{arith, rules, ap₂, subst, ◌∙◌, ◌+◌, ℕ, ◌+ℤ◌, ◌≤ℤ◌, ◌<ℤ◌, unsigned_abs, get_or}
 use Rattle.std.specs.Prelude.{IfSome}
-use Rattle.std.proofs.lemmas.Int.{ints}
 use mir.Val.{SFits}
 use mir.Syntax.{w64}
 use Rattle.raim_model.specs.declared.waypoint.Waypoint.{Waypoint}
-use Rattle.raim_model.specs.Constants.{day_ms}
 use Rattle.site_laws.specs.Places.{place_over_of}
-use Rattle.time_forms.specs.Forms.{IsTime}
 use Rattle.leg_place.proofs.Pieces.{plain}
 use Rattle.leg_place.proofs.PlaceLemmas.{at-time, leg_short}
 use Rattle.site_forms.specs.Places.{place_form, PlaceHolds, checked_place_over}
@@ -14,37 +11,21 @@ use Rattle.site_forms.proofs.FoundPlaces.{if_place}
 use Rattle.site_forms.proofs.Sites.{place_over_holds}
 use Rattle.site_forms.proofs.place.place_over.Goals as goal
 
--- a piece that lies on its leg, from its start to before its end
-middle_started : (s m h : ℤ) → pos 1 ≤ℤ h → s ≤ℤ (m -ℤ h) → s ≤ℤ m
-middle_started s m h p q = omega (arith, ints)
-
-middle_before : (e m h : ℤ) → pos 1 ≤ℤ h → (m +ℤ h) <ℤ e → m <ℤ e
-middle_before e m h p q = omega (arith, ints)
-
-half_within : (s e m h : ℤ) → pos 1 ≤ℤ h → s ≤ℤ (m -ℤ h) → (m +ℤ h) <ℤ e → e ≤ℤ (s +ℤ pos day_ms) → h ≤ℤ pos day_ms
-half_within s e m h p q r k = omega (arith, ints)
-
-from_start : (s m h d : ℤ) → pos 1 ≤ℤ h → s ≤ℤ (m -ℤ h) → IsTime (unsigned_abs h) d → s ≤ℤ (m +ℤ d)
-from_start s m h d p q t = let l = t.after in omega (arith, ints)
-
-before_stop : (e m h d : ℤ) → pos 1 ≤ℤ h → (m +ℤ h) <ℤ e → IsTime (unsigned_abs h) d → (m +ℤ d) <ℤ e
-before_stop e m h d p q t = let u = t.before in omega (arith, ints)
-
 pub invariant_of-leg : goal.invariant_of-leg
 invariant_of-leg c =
     let s : SFits w64 c.waypoint-start.result.at = search rules in
     let e : SFits w64 c.waypoint-stop.result.at = search rules in
     let a = at-time c.args.route.now c.args.leg c.waypoint-start.result (omega arith) c.waypoint-start.ensures.value in
     let b = at-time c.args.route.now (c.args.leg + 1) c.waypoint-stop.result c.requires.leg c.waypoint-stop.ensures.value in
-    let started : c.waypoint-start.result.at ≤ℤ (c.args.middle -ℤ c.args.half) = rw a c.requires.started in
-    let not_over : (c.args.middle +ℤ c.args.half) <ℤ c.waypoint-stop.result.at = rw b c.requires.not_over in
+    let started : c.waypoint-start.result.at ≤ℤ c.args.middle = rw a c.requires.started in
+    let not_over : c.args.middle <ℤ c.waypoint-stop.result.at = rw b c.requires.not_over in
     let short = leg_short c.args.route.now c.args.leg c.waypoint-start.result c.waypoint-stop.result c.waypoint-start.ensures.route c.requires.leg c.waypoint-start.ensures.value c.waypoint-stop.ensures.value in
     record {
-      started = rw (plain s, plain c.ranges.middle) (middle_started c.waypoint-start.result.at c.args.middle c.args.half c.requires.half_positive started);
-      not_over = rw (plain e, plain c.ranges.middle) (middle_before c.waypoint-stop.result.at c.args.middle c.args.half c.requires.half_positive not_over);
+      started = rw (plain s, plain c.ranges.middle) started;
+      not_over = rw (plain e, plain c.ranges.middle) not_over;
       short = rw (plain s, plain e) short;
       half_positive = rw (plain c.ranges.half) c.requires.half_positive;
-      half_short = rw (plain c.ranges.half) (half_within c.waypoint-start.result.at c.waypoint-stop.result.at c.args.middle c.args.half c.requires.half_positive started not_over short);
+      half_short = rw (plain c.ranges.half) c.requires.half_short;
     }
 
 pub returns-clause-exact : goal.returns-clause-exact
@@ -53,15 +34,15 @@ returns-clause-exact c w =
     ∙ ap₂ (λ (u v : Waypoint). checked_place_over u v c.args.middle (unsigned_abs c.args.half)) (c.waypoint-start.ensures.value w) (c.waypoint-stop.ensures.value w)
 
 pub returns-clause-holds : goal.returns-clause-holds
-returns-clause-holds c w d t =
+returns-clause-holds c w d t p q =
     let u = c.waypoint-start.result in
     let v = c.waypoint-stop.result in
     let h : ℕ = unsigned_abs c.args.half in
     let a = at-time c.args.route.now c.args.leg u (omega arith) c.waypoint-start.ensures.value in
     let b = at-time c.args.route.now (c.args.leg + 1) v c.requires.leg c.waypoint-stop.ensures.value in
-    let started : u.at ≤ℤ (c.args.middle +ℤ d) = from_start u.at c.args.middle c.args.half d c.requires.half_positive (rw a c.requires.started) t in
-    let not_over : (c.args.middle +ℤ d) <ℤ v.at = before_stop v.at c.args.middle c.args.half d c.requires.half_positive (rw b c.requires.not_over) t in
+    let started : u.at ≤ℤ (c.args.middle +ℤ d) = rw a p in
+    let not_over : (c.args.middle +ℤ d) <ℤ v.at = rw b q in
     subst (λ (x : Waypoint). IfSome c.between.result (λ p. PlaceHolds h d (place_form p) (place_over_of x (get_or c.args.route.now (c.args.leg + 1) w) (c.args.middle +ℤ d) (c.args.middle +ℤ d)))) (c.waypoint-start.ensures.value w)
     (subst (λ (y : Waypoint). IfSome c.between.result (λ p. PlaceHolds h d (place_form p) (place_over_of u y (c.args.middle +ℤ d) (c.args.middle +ℤ d)))) (c.waypoint-stop.ensures.value w)
     (if_place c.between.result (checked_place_over u v c.args.middle h) (rw (plain c.ranges.middle, plain c.ranges.half) at c.between.ensures.exact) (λ p. PlaceHolds h d p (place_over_of u v (c.args.middle +ℤ d) (c.args.middle +ℤ d)))
-    (λ p e. place_over_holds u v c.args.middle p c.waypoint-start.ensures.accepted c.waypoint-stop.ensures.accepted t started not_over e)))
+    (λ f e. place_over_holds u v c.args.middle f c.waypoint-start.ensures.accepted c.waypoint-stop.ensures.accepted t started not_over e)))

@@ -18,7 +18,7 @@ returns-in_err-lon-clause-exact c =
 
 pub returns-clause-exact : goal.returns-clause-exact
 returns-clause-exact c =
-    c.frame_at.ensures ∙ frame_some (place_form c.args.place.now) (pair_form c.in_ok-lat.lat) (pair_form c.in_ok-lon.lon) c.in_ok-lat.ensures.exact c.in_ok-lon.ensures.exact
+    c.frame_at.ensures.exact ∙ frame_some (place_form c.args.place.now) (pair_form c.in_ok-lat.lat) (pair_form c.in_ok-lon.lon) c.in_ok-lat.ensures.exact c.in_ok-lon.ensures.exact
 
 pub returns-clause-holds : goal.returns-clause-holds
 returns-clause-holds c h d p t k =
