@@ -18,7 +18,7 @@ use time_forms::TimeForm;
 /// The milliseconds of 90 days.
 const NINETY_DAYS: i64 = 7_776_000_000;
 
-fn number(words: &mut SplitWhitespace) -> Option<i64> {
+pub(crate) fn number(words: &mut SplitWhitespace) -> Option<i64> {
     words.next()?.parse::<i64>().ok()
 }
 
@@ -29,7 +29,7 @@ fn is_short_number(z: i64) -> bool
 }
 
 /// The form of three words, where it may be asked.
-fn form_of(words: &mut SplitWhitespace) -> Option<TimeForm>
+pub(crate) fn form_of(words: &mut SplitWhitespace) -> Option<TimeForm>
     ensures { IfSome result (λ f. IsFormWithin (form f) (2 ^ 58)) }
 {
     let centre = number(words)?;
@@ -47,7 +47,7 @@ fn form_of(words: &mut SplitWhitespace) -> Option<TimeForm>
 }
 
 /// Whether the next words say these forms.
-fn say(words: &mut SplitWhitespace, forms: &[TimeForm]) -> bool {
+pub(crate) fn say(words: &mut SplitWhitespace, forms: &[TimeForm]) -> bool {
     let mut same = true;
     for f in forms {
         let numbers = (number(words), number(words), number(words));

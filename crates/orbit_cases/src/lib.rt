@@ -6,6 +6,8 @@ mod anomalies;
 #[cfg(test)]
 mod anomaly_table;
 #[cfg(test)]
+mod form_sights;
+#[cfg(test)]
 mod form_tables;
 #[cfg(test)]
 mod frames;
