@@ -1,5 +1,5 @@
 -- The cases of the test of a list of rows.
-use Rattle.std.specs.Prelude.{◌≡◌, ◌<◌, ◌≤◌, ℤ, ◌≤ℤ◌, ◌<ℤ◌, true, false, List, length, refl}
+use Rattle.std.specs.Prelude.{◌≡◌, ℕ, ◌<◌, ◌≤◌, ℤ, ◌≤ℤ◌, ◌<ℤ◌, true, false, List, length, refl}
 use Rattle.std.proofs.Common.{arith, ap, sym, subst, ◌∙◌}
 use Rattle.std.proofs.lemmas.Int.{ints}
 use Rattle.std.proofs.lemmas.Bool.{lt-ltb, le-ltb}
@@ -8,9 +8,10 @@ use lib.Signed.{lt_z}
 use Rattle.raim_model.specs.declared.Why.TheVariants.{Few, Singular}
 use Rattle.raim_model.specs.declared.Cmp.TheVariants.{Det}
 use Rattle.fix_interval.specs.Ends.{Ends}
+use Rattle.geometry_laws.specs.Without.{without}
 use Rattle.geom_laws.specs.Rows.{RowEnds}
 use Rattle.geom_laws.specs.Symmetric.{SymEnds}
-use Rattle.geom_laws.specs.Gram.{gram_of}
+use Rattle.geom_laws.specs.Gram.{gram_of, gram_without_of}
 use Rattle.geom_laws.specs.Determinant.{det_of}
 use Rattle.raim_model.specs.declared.Verdict.{Verdict}
 use Rattle.raim_model.specs.declared.Verdict.TheVariants.{Unavailable, Undecided}
@@ -29,6 +30,11 @@ use Rattle.slope_test.proofs.Opens.{pass_is, stops}
 pub determinant_is : (d : Ends) (h : SymEnds) (rows : List RowEnds) → d ≡ det_of h → h ≡ gram_of rows → d ≡ determinant_of rows
 unfolding determinant_of
 determinant_is d h rows e f = e ∙ ap det_of f
+
+-- the determinant of the rows without one
+pub less_determinant : (x : Ends) (rows : List RowEnds) (i : ℕ) → x ≡ det_of (gram_without_of rows i) → x ≡ determinant_of (without i rows)
+unfolding determinant_of gram_without_of
+less_determinant x rows i e = e
 
 same_length : (rows : List Row) → length (named rows) ≡ length rows
 same_length rows = length-map rows named_row
@@ -53,9 +59,9 @@ detect_singular shift rows kappa d p e h =
     let q : 5 ≤ length (named rows) = omega arith in
     rw (le-ltb (length (named rows)) 5 q, ends-named rows, ← e, below d.hi h) refl
 
-pub detect_straddles : (shift : Shift) (rows : List Row) (kappa d : Ends) → 5 ≤ length rows → d ≡ determinant_of (rows_ends rows) → least_units ≤ℤ d.hi → d.lo <ℤ least_units → Undecided Det ≡ detect_of shift (named rows) kappa
+pub detect_undecided : (shift : Shift) (rows : List Row) (kappa d : Ends) → 5 ≤ length rows → d ≡ determinant_of (rows_ends rows) → least_units ≤ℤ d.hi → d.lo <ℤ least_units → Undecided Det ≡ detect_of shift (named rows) kappa
 unfolding detect_by slopes_for
-detect_straddles shift rows kappa d p e h k =
+detect_undecided shift rows kappa d p e h k =
     let l = same_length rows in
     let q : 5 ≤ length (named rows) = omega arith in
     rw (le-ltb (length (named rows)) 5 q, ends-named rows, ← e, above d.hi h, below d.lo k) refl

@@ -1,7 +1,7 @@
 -- The steps of the loops over rows.
 use Rattle.std.specs.Prelude.{◌≡◌, ℕ, ◌+◌, ◌<◌, ◌≤◌, true, false, List, [], ◌∷◌, ◌++◌, take, length, slice_index_or}
 use Rattle.std.proofs.Common.{arith, ap, sym, subst, ◌∙◌}
-use Rattle.std.proofs.lemmas.List.{take_all, take_more, length-map, length-take-le}
+use Rattle.std.proofs.lemmas.List.{take_all, length-map}
 use Rattle.fix_interval.specs.Ends.{Ends}
 use Rattle.geometry_laws.specs.Without.{without}
 use Rattle.geom_laws.specs.Symmetric.{SymEnds}
@@ -20,7 +20,6 @@ use Rattle.geom_inverse.specs.Views.{row_ends, rows_ends}
 use Rattle.slope_test.specs.Named.{named_row, named, slopes_over, is_pass}
 use Rattle.slope_test.specs.Tallies.{IsTally}
 use Rattle.slope_test.proofs.RowRemovals.{length-removals, removal_of, removals_more, slope_over_at}
-use Rattle.slope_test.proofs.Withouts.{without_push_other, without_push_same}
 use Rattle.slope_test.proofs.Opens.{open_more, open_stops, pass_is}
 
 -- ---- slopes
@@ -45,31 +44,7 @@ tally_all shift rows kappa i t p h =
     let n = count rows in
     subst (λ ys. IsTally t (slopes_over shift rows kappa) ys) (take_all i (removals (named rows)) (omega arith)) h
 
--- ---- the rows without one
-pub rest_other : (rows : List Row) (j i : ℕ) (x : Row) (rest new : List Row) → i < length rows → x ≡ slice_index_or rows i x → (i ≡ j → ⊥) → rest ≡ without j (take i rows) → new ≡ rest ++ x ∷ []
-    → new ≡ without j (take (i + 1) rows)
-rest_other rows j i x rest new p e n h k =
-    let t : take (i + 1) rows ≡ take i rows ++ x ∷ [] = take_more rows i x p ∙ ap (λ y. take i rows ++ y ∷ []) (sym e) in
-    let l : length (take i rows) ≡ i = length-take-le i rows (omega arith) in
-    k ∙ ap (λ ys. ys ++ x ∷ []) h ∙ sym (ap (λ ys. without j ys) t ∙ without_push_other j (take i rows) x (λ f. n (sym l ∙ f)))
-
-pub rest_same : (rows : List Row) (j i : ℕ) (rest : List Row) → i < length rows → i ≡ j → rest ≡ without j (take i rows) → rest ≡ without j (take (i + 1) rows)
-rest_same [] j i rest p e h = absurd (omega arith)
-rest_same (r ∷ rs) j i rest p e h =
-    let rows : List Row = r ∷ rs in
-    let t : take (i + 1) rows ≡ take i rows ++ slice_index_or rows i r ∷ [] = take_more rows i r p in
-    let l : length (take i rows) ≡ i = length-take-le i rows (omega arith) in
-    h ∙ sym (ap (λ ys. without j ys) t ∙ without_push_same j (take i rows) (slice_index_or rows i r) (l ∙ e))
-
-pub rest_all : (rows : List Row) (j i : ℕ) (rest : List Row) → length rows ≤ i → rest ≡ without j (take i rows) → rest ≡ without j rows
-rest_all rows j i rest p h = h ∙ ap (λ ys. without j ys) (take_all i rows p)
-
 -- ---- the subsets
--- the verdict of the list without the row at j
-pub subset_verdict : (shift : Shift) (rows : List Row) (j : ℕ) (d : Row) (kappa : Ends) (prn : ℕ) (v w : Verdict) → v ≡ named_without prn w → (slice_index_or rows j d).prn ≡ prn → w ≡ detect_of shift (without j (named rows)) kappa
-    → v ≡ named_without (removal_of rows j d).row.prn (detect_of shift (removal_of rows j d).rest kappa)
-subset_verdict shift rows j d kappa prn v w a b e = a ∙ ap (named_without prn) e ∙ ap (λ p. named_without p (detect_of shift (without j (named rows)) kappa)) (sym b)
-
 pub subsets_stop : (shift : Shift) (rows : List Row) (j : ℕ) (d : Row) (kappa : Ends) (v : Verdict) → j < length rows → v ≡ named_without (removal_of rows j d).row.prn (detect_of shift (removal_of rows j d).rest kappa) → is_pass v ≡ false
     → first_open (λ rest. detect_of shift rest kappa) (take j (removals (named rows))) ≡ Available → v ≡ first_open (λ rest. detect_of shift rest kappa) (removals (named rows))
 subsets_stop shift rows j d kappa v p e f h =

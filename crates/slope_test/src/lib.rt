@@ -7,8 +7,6 @@ mod detection;
 mod marks;
 mod slope;
 mod tally;
-mod told;
 
-pub use detection::{detect, detect_from, detect_over};
+pub use detection::{detect, detect_by_sums};
 pub use marks::Marks;
-pub use told::{detect_over_told, detect_told};

@@ -1,5 +1,9 @@
 // Places that are marked.
-ghost use Rattle.std.specs.Prelude.{◌≡◌, ◌≢◌, ℕ, ◌<◌, slice_index_or, false};
+ghost use Rattle.std.specs.Prelude.{◌≡◌, ◌≢◌, ℕ, ◌<◌, List, slice_index_or, false};
+ghost use Rattle.fix_interval.specs.Ends.{Ends};
+ghost use Rattle.slope_laws.specs.declared.Shift.{Shift};
+ghost use Rattle.slope_laws.specs.Rows.{NamedRow};
+ghost use Rattle.slope_test.specs.Marks.{SlopesPass, ListsPass};
 
 /// Places of a list of at most 32, of which something is known.
 #[derive(Clone, Copy)]
@@ -10,7 +14,10 @@ pub struct Marks {
 impl Marks {
     /// No place.
     pub fn none() -> Marks
-        ensures { (k : ℕ) → slice_index_or result.places k false ≡ false }
+        ensures unmarked { (k : ℕ) → slice_index_or result.places k false ≡ false }
+        // so nothing is known of any rows
+        ensures slopes { (shift : Shift) (rows : List NamedRow) (kappa : Ends) → SlopesPass shift rows kappa result.places }
+        ensures lists { (shift : Shift) (rows : List NamedRow) (kappa_less : Ends) → ListsPass shift rows kappa_less result.places }
     {
         Marks {
             places: [false; 32],

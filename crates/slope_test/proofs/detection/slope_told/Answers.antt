@@ -1,9 +1,9 @@
 use Rattle.std.proofs.Common.{sym, ◌∙◌}
 use Rattle.fix_interval.specs.Intervals.{ends, ends_64}
 use Rattle.geom_inverse.specs.Views.{rows_ends, sym_ends}
-use Rattle.slope_test.proofs.Stores.{less_determinant}
+use Rattle.slope_test.proofs.Detections.{less_determinant}
 use Rattle.slope_test.proofs.MarkLemmas.{marked_passes, worked_out, marks_more}
-use Rattle.slope_test.proofs.told.slope_told.Goals as goal
+use Rattle.slope_test.proofs.detection.slope_told.Goals as goal
 
 pub returns-then-holds-clause-outcome : goal.returns-then-holds-clause-outcome
 returns-then-holds-clause-outcome c = λ row.

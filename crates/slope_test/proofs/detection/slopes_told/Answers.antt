@@ -5,7 +5,7 @@ use Rattle.geom_inverse.specs.declared.Row.{Row}
 use Rattle.geom_inverse.specs.Views.{sym_ends}
 use Rattle.slope_test.specs.Named.{named, slopes_over}
 use Rattle.slope_test.proofs.Loops.{tally_more, tally_all}
-use Rattle.slope_test.proofs.told.slopes_told.Goals as goal
+use Rattle.slope_test.proofs.detection.slopes_told.Goals as goal
 
 pub loop-i-init : goal.loop-i-init
 loop-i-init c = record {

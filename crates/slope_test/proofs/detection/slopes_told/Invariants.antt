@@ -4,7 +4,7 @@ use Rattle.slope_laws.specs.Rows.{removals}
 use Rattle.slope_test.specs.Marks.{SlopesPass}
 use Rattle.slope_test.specs.Named.{named, slopes_over}
 use Rattle.slope_test.specs.Tallies.{IsTally}
-use Rattle.slope_test.proofs.told.slopes_told.Given as goal
+use Rattle.slope_test.proofs.detection.slopes_told.Given as goal
 
 abbrev pub invariant-loop-i : goal.invariant-loop-i
 invariant-loop-i l = record {

@@ -1,9 +1,0 @@
-use Rattle.std.proofs.Common.{take}
-use Rattle.fix_interval.specs.Intervals.{ends}
-use Rattle.slope_laws.specs.Rows.{removals}
-use Rattle.slope_test.specs.Named.{named, slopes_over}
-use Rattle.slope_test.specs.Tallies.{IsTally}
-use Rattle.slope_test.proofs.detection.slopes.Given as goal
-
-abbrev pub invariant-loop-i : goal.invariant-loop-i
-invariant-loop-i l = IsTally l.tally (slopes_over l.shift l.rows (ends l.kappa)) (take l.i (removals (named l.rows)))
