@@ -5,8 +5,5 @@
 #![tactic(auto)]
 
 mod exclusion;
-mod pairs;
-mod told;
 
-pub use exclusion::{exclude, exclude_over};
-pub use told::exclude_over_told;
+pub use exclusion::exclude;

@@ -1,18 +1,13 @@
 use Rattle.std.proofs.Common.{arith, sym, ◌∙◌}
-use Rattle.fix_interval.specs.Intervals.{ends, ends_64}
-use Rattle.geom_inverse.specs.Views.{rows_ends, sym_ends}
-use Rattle.slope_test.proofs.Detections.{determinant_is, exclude_few, exclude_whole, exclude_subsets}
+use Rattle.fix_interval.specs.Intervals.{ends}
+use Rattle.slope_test.proofs.Detections.{exclude_few, exclude_whole, exclude_subsets}
 use Rattle.exclusion_subsets.proofs.exclusion.excluded.Goals as goal
 
-pub returns-then-rows-lt6 : goal.returns-then-rows-lt6
-returns-then-rows-lt6 c = exclude_few c.args.shift c.args.rows.now (ends c.args.kappa) (ends c.args.kappa_less) (omega arith)
+pub returns-then-rows-lt6-clause-exact : goal.returns-then-rows-lt6-clause-exact
+returns-then-rows-lt6-clause-exact c = exclude_few c.args.shift c.args.rows.now (ends c.args.kappa) (ends c.args.kappa_less) (omega arith)
 
-pub detect_from-whole-requires-clause-determinant : goal.detect_from-whole-requires-clause-determinant
-detect_from-whole-requires-clause-determinant c =
-    determinant_is (ends_64 c.det_64-determinant.result) (sym_ends c.gram_of_sums.result) (rows_ends c.args.rows.now) c.det_64-determinant.ensures.exact c.gram_of_sums.ensures.exact
+pub returns-then-not-passes-clause-exact : goal.returns-then-not-passes-clause-exact
+returns-then-not-passes-clause-exact c = exclude_whole c.args.shift c.args.rows.now (ends c.args.kappa) (ends c.args.kappa_less) c.detect_by_sums-whole.result (omega arith) c.detect_by_sums-whole.ensures.exact (sym c.passes.ensures ∙ c.if-not-passes.true)
 
-pub returns-then-not-passes : goal.returns-then-not-passes
-returns-then-not-passes c = exclude_whole c.args.shift c.args.rows.now (ends c.args.kappa) (ends c.args.kappa_less) c.detect_from-whole.result (omega arith) c.detect_from-whole.ensures.exact (sym c.passes.ensures ∙ c.if-not-passes.true)
-
-pub returns : goal.returns
-returns c = exclude_subsets c.args.shift c.args.rows.now (ends c.args.kappa) (ends c.args.kappa_less) c.detect_from-whole.result c.subsets.result (omega arith) c.detect_from-whole.ensures.exact (sym c.passes.ensures ∙ c.if-not-passes.false) c.subsets.ensures
+pub returns-clause-exact : goal.returns-clause-exact
+returns-clause-exact c = exclude_subsets c.args.shift c.args.rows.now (ends c.args.kappa) (ends c.args.kappa_less) c.detect_by_sums-whole.result c.subsets_told.result (omega arith) c.detect_by_sums-whole.ensures.exact (sym c.passes.ensures ∙ c.if-not-passes.false) c.subsets_told.ensures.value

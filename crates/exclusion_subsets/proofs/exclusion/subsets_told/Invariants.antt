@@ -7,7 +7,7 @@ use Rattle.slope_laws.specs.ShiftSlopes.{detect_of}
 use Rattle.slope_test.specs.Marks.{ListsPass}
 use Rattle.slope_test.specs.Named.{named}
 use Rattle.exclusion_subsets.proofs.Rests.{IsRest}
-use Rattle.exclusion_subsets.proofs.told.subsets_told.Given as goal
+use Rattle.exclusion_subsets.proofs.exclusion.subsets_told.Given as goal
 
 -- the first i rows behind the first one stand in the rest
 abbrev pub invariant-loop-i : goal.invariant-loop-i

@@ -5,7 +5,7 @@ use Rattle.fix_interval.specs.Intervals.{ends}
 use Rattle.slope_test.specs.Named.{is_pass}
 use Rattle.slope_test.proofs.Loops.{subsets_stop, subsets_more, subsets_all}
 use Rattle.exclusion_subsets.proofs.Rests.{rest_is, rest_next}
-use Rattle.exclusion_subsets.proofs.told.subsets_told.Goals as goal
+use Rattle.exclusion_subsets.proofs.exclusion.subsets_told.Goals as goal
 
 pub loop-j-init : goal.loop-j-init
 loop-j-init c =
