@@ -10,10 +10,10 @@ ghost use Rattle.piece_verdict.specs.Alerts.{IsAlert, shift_of, limit_for};
 
 use crate::alert::{Alert, limit_mm, shift};
 use crate::factor::kappa;
-use exclusion_subsets::exclude_over_told;
+use exclusion_subsets::exclude;
 use geom_inverse::Row;
 use raim_model::{Limits, Verdict};
-use slope_test::{Marks, detect_over_told};
+use slope_test::{Marks, detect};
 
 /// How many satellites the test asks for.
 pub(crate) fn needed(limits: &Limits) -> usize
@@ -48,9 +48,9 @@ pub(crate) fn test(
     if limits.exclude {
         let factor_of_all = kappa(limits, alert_mm, n);
         let factor_of_fewer = kappa(limits, alert_mm, n - 1);
-        exclude_over_told(shift, rows, factor_of_all, factor_of_fewer, slopes, lists)
+        exclude(shift, rows, factor_of_all, factor_of_fewer, slopes, lists)
     } else {
         let factor = kappa(limits, alert_mm, n);
-        detect_over_told(shift, rows, factor, slopes)
+        detect(shift, rows, factor, slopes)
     }
 }
