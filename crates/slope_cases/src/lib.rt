@@ -12,4 +12,6 @@ mod slope_table;
 #[cfg(test)]
 mod slopes;
 #[cfg(test)]
+mod tested;
+#[cfg(test)]
 mod vertical_slopes;

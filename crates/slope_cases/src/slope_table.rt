@@ -4,13 +4,12 @@
 ghost use Rattle.std.specs.Prelude.{◌+◌, ◌^◌, pos, ◌≤ℤ◌, IfSome};
 ghost use Rattle.fix_interval.specs.Intervals.{IsWithin};
 
+use crate::tested::{detected, excluded};
 use arrayvec::ArrayVec;
-use exclusion_subsets::exclude_over;
 use fix_interval::{Iv, UNITS_IN_ONE};
 use geom_inverse::Row;
 use raim_model::Verdict;
 use slope_laws::Shift;
-use slope_test::detect_over;
 use std::alloc::Global;
 use std::test::Fail;
 
@@ -136,10 +135,10 @@ fn answers(line: &str) -> Option<[Verdict; 4]> {
     let kappa = interval(words.next()?, words.next()?)?;
     let kappa_less = interval(words.next()?, words.next()?)?;
     Some([
-        detect_over(Shift::Horizontal, rows, kappa),
-        exclude_over(Shift::Horizontal, rows, kappa, kappa_less),
-        detect_over(Shift::Vertical, rows, kappa),
-        exclude_over(Shift::Vertical, rows, kappa, kappa_less),
+        detected(Shift::Horizontal, rows, kappa),
+        excluded(Shift::Horizontal, rows, kappa, kappa_less),
+        detected(Shift::Vertical, rows, kappa),
+        excluded(Shift::Vertical, rows, kappa, kappa_less),
     ])
 }
 

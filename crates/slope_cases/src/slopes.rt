@@ -2,12 +2,11 @@
 
 ghost use Rattle.std.specs.Prelude.{◌^◌, pos, ◌≤ℤ◌};
 
-use exclusion_subsets::{exclude, exclude_over};
+use crate::tested::{detected, excluded};
 use fix_interval::Iv;
 use geom_inverse::Row;
 use raim_model::{Cmp, Verdict, Why};
 use slope_laws::Shift;
-use slope_test::{detect, detect_over};
 
 const HALF: Iv = Iv {
     lo: 137438953472,
@@ -46,11 +45,11 @@ fn five(weight: Iv) -> [Row; 5]
 fn detect_five(lo: i128, hi: i128) -> Verdict
     requires { lo ≤ℤ hi }
 {
-    detect(&five(Iv::ONE), Iv { lo, hi })
+    detected(Shift::Horizontal, &five(Iv::ONE), Iv { lo, hi })
 }
 
 fn exclude_six(less: Iv) -> Verdict {
-    exclude(&six(Iv::ONE), Iv::ONE, less)
+    excluded(Shift::Horizontal, &six(Iv::ONE), Iv::ONE, less)
 }
 
 const SLOPE: Verdict = Verdict::Unavailable(Why::Slope);
@@ -72,22 +71,25 @@ fn five_satellites(rt: HostRuntime) {
 fn four_are_few_and_five_in_one_place_singular(rt: HostRuntime) {
     let [east, west, north, south, up] = five(Iv::ONE);
     assert_eq!(rt;
-        detect(&[east, west, north, south], Iv::ONE),
+        detected(Shift::Horizontal, &[east, west, north, south], Iv::ONE),
         Verdict::Unavailable(Why::Few)
     );
     assert_eq!(rt;
-        detect(&[up, up, up, up, up], Iv::ONE),
+        detected(Shift::Horizontal, &[up, up, up, up, up], Iv::ONE),
         Verdict::Unavailable(Why::Singular)
     );
     assert_eq!(rt;
-        detect(&[up, up, up, up, up], Iv::ZERO),
+        detected(Shift::Horizontal, &[up, up, up, up, up], Iv::ZERO),
         Verdict::Unavailable(Why::Singular)
     );
 }
 
 #[test]
 fn six_satellites_and_one_excluded(rt: HostRuntime) {
-    assert_eq!(rt; detect(&six(Iv::ONE), Iv::ONE), Verdict::Available);
+    assert_eq!(rt;
+        detected(Shift::Horizontal, &six(Iv::ONE), Iv::ONE),
+        Verdict::Available
+    );
     assert_eq!(rt; exclude_six(Iv::ONE), SLOPE);
     assert_eq!(rt; exclude_six(Iv::ZERO), Verdict::Available);
     assert_eq!(rt;
@@ -95,7 +97,7 @@ fn six_satellites_and_one_excluded(rt: HostRuntime) {
         Verdict::Undecided(Cmp::SlopeWithout(1, 2))
     );
     assert_eq!(rt;
-        exclude(&five(Iv::ONE), Iv::ONE, Iv::ONE),
+        excluded(Shift::Horizontal, &five(Iv::ONE), Iv::ONE, Iv::ONE),
         Verdict::Unavailable(Why::Few)
     );
 }
@@ -104,8 +106,14 @@ fn six_satellites_and_one_excluded(rt: HostRuntime) {
 fn weights_of_a_half(rt: HostRuntime) {
     let rows = five(HALF);
     let quarter = 68719476736;
-    assert_eq!(rt; detect(&rows, Iv::point(quarter)), Verdict::Available);
-    assert_eq!(rt; detect(&rows, Iv::point(quarter + 1)), SLOPE);
+    assert_eq!(rt;
+        detected(Shift::Horizontal, &rows, Iv::point(quarter)),
+        Verdict::Available
+    );
+    assert_eq!(rt;
+        detected(Shift::Horizontal, &rows, Iv::point(quarter + 1)),
+        SLOPE
+    );
 }
 
 #[test]
@@ -113,21 +121,21 @@ fn upwards(rt: HostRuntime) {
     let six = six(Iv::ONE);
     // four thirds
     assert_eq!(rt;
-        detect_over(Shift::Vertical, &six, Iv::point(366503875925)),
+        detected(Shift::Vertical, &six, Iv::point(366503875925)),
         Verdict::Available
     );
     assert_eq!(rt;
-        detect_over(Shift::Vertical, &six, Iv::point(366503875926)),
+        detected(Shift::Vertical, &six, Iv::point(366503875926)),
         SLOPE
     );
     let five = five(Iv::ONE);
-    assert_eq!(rt; detect_over(Shift::Vertical, &five, Iv::point(1)), SLOPE);
+    assert_eq!(rt; detected(Shift::Vertical, &five, Iv::point(1)), SLOPE);
     assert_eq!(rt;
-        detect_over(Shift::Vertical, &five, Iv::ZERO),
+        detected(Shift::Vertical, &five, Iv::ZERO),
         Verdict::Available
     );
     assert_eq!(rt;
-        exclude_over(Shift::Vertical, &six, Iv::ONE, Iv::ZERO),
+        excluded(Shift::Vertical, &six, Iv::ONE, Iv::ZERO),
         Verdict::Available
     );
 }

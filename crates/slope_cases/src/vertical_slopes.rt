@@ -1,12 +1,13 @@
 // Satellites on the axes, whose vertical slopes are whole numbers. What exclusion makes of them is as an independent evaluation in
 // whole numbers of any size has it (`oracle/table_of_verticals.py`).
 
-ghost use Rattle.std.specs.Prelude.{◌^◌, pos, ◌≤ℤ◌};
+ghost use Rattle.std.specs.Prelude.{◌^◌, ◌≤◌, pos, ◌≤ℤ◌, length};
 
+use crate::tested::{detected, excluded};
 use fix_interval::Iv;
 use geom_inverse::Row;
 use raim_model::{Cmp, Verdict, Why};
-use vert_slope::{detect_up, exclude_up};
+use slope_laws::Shift;
 
 const HALF: Iv = Iv {
     lo: 137438953472,
@@ -52,6 +53,20 @@ fn six(weight: Iv) -> [Row; 6]
 fn five() -> [Row; 5] {
     let [east, west, north, south, up, _] = six(Iv::ONE);
     [east, west, north, south, up]
+}
+
+/// What the test upwards makes of the rows.
+fn detect_up(rows: &[Row], kappa: Iv) -> Verdict
+    requires { length rows.now ≤ 32 }
+{
+    detected(Shift::Vertical, rows, kappa)
+}
+
+/// What exclusion upwards makes of the rows.
+fn exclude_up(rows: &[Row], kappa: Iv, kappa_less: Iv) -> Verdict
+    requires { length rows.now ≤ 32 }
+{
+    excluded(Shift::Vertical, rows, kappa, kappa_less)
 }
 
 #[test]
