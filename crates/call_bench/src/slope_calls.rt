@@ -8,7 +8,8 @@ use exclusion_subsets::exclude;
 use fix_interval::{Iv, UNITS_IN_ONE};
 use geom_inverse::Row;
 use raim_model::{Cmp, Verdict, Why};
-use slope_test::detect;
+use slope_laws::Shift;
+use slope_test::{Marks, detect};
 
 /// A part of the direction of the satellite `prn`, from -1 to 1 and at most three units wide.
 fn part(i: u32, prn: u8) -> Iv
@@ -80,11 +81,31 @@ fn onto_verdict(before: u64, verdict: Verdict) -> u64 {
     }
 }
 
+/// What the test for detection makes of rows of which nothing is known.
+fn detected(rows: &[Row; 12], kappa: Iv) -> Verdict {
+    let mut known = Marks::none();
+    detect(Shift::Horizontal, rows, kappa, &mut known)
+}
+
+/// What the test for exclusion makes of them.
+fn excluded(rows: &[Row; 12], kappa: Iv, kappa_less: Iv) -> Verdict {
+    let mut slopes = Marks::none();
+    let mut lists = Marks::none();
+    exclude(
+        Shift::Horizontal,
+        rows,
+        kappa,
+        kappa_less,
+        &mut slopes,
+        &mut lists,
+    )
+}
+
 /// The sum of N tests for detection.
 pub fn sum_of_detections(n: u32) -> u64 {
     let mut sum: u64 = 0;
     for i in 0..n {
-        sum = onto_verdict(sum, detect(&rows(i), kappa(i)));
+        sum = onto_verdict(sum, detected(&rows(i), kappa(i)));
     }
     sum
 }
@@ -93,7 +114,7 @@ pub fn sum_of_detections(n: u32) -> u64 {
 pub fn sum_of_exclusions(n: u32) -> u64 {
     let mut sum: u64 = 0;
     for i in 0..n {
-        sum = onto_verdict(sum, exclude(&rows(i), kappa(i), kappa_less(i)));
+        sum = onto_verdict(sum, excluded(&rows(i), kappa(i), kappa_less(i)));
     }
     sum
 }
