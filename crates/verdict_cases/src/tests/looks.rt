@@ -11,7 +11,7 @@ use flight_samples::{EIGHT, FIVE, MILD, OVERHEAD, SECOND, sem_almanac};
 use piece_verdict::{Alert, FlightJudge, Looks};
 use raim_model::{Cmp, Verdict, Why};
 use slope_laws::Shift;
-use slope_test::detect_over;
+use slope_test::{Marks, detect};
 use std::alloc::Global;
 use std::marker::Brand;
 use std::str::SplitWhitespace;
@@ -138,11 +138,9 @@ fn upwards(alloc: Global, flight: Flight, first: i64, last: i64, limit_mm: u32) 
     if n < 5 || limit_mm == 0 || limit_mm > 1_000_000_000 {
         return None;
     }
-    Some(detect_over(
-        Shift::Vertical,
-        rows.as_slice(),
-        judge.case.kappa_over(n, limit_mm),
-    ))
+    let mut known = Marks::none();
+    let kappa = judge.case.kappa_over(n, limit_mm);
+    Some(detect(Shift::Vertical, rows.as_slice(), kappa, &mut known))
 }
 
 /// The mildest detection, with weights for four of five satellites.
