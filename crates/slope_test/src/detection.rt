@@ -16,14 +16,16 @@ ghost use Rattle.slope_laws.specs.Rows.{NamedRow, NamedRowsLie, NamedRowsInside,
 ghost use Rattle.slope_laws.specs.Slopes.{slopes_of};
 ghost use Rattle.slope_laws.specs.ShiftSlopes.{squared_shift, outcome_of, determinant_of, detect_of};
 ghost use Rattle.slope_laws.specs.Hold.{Tells, LeavesVerdict};
+ghost use Rattle.slope_test.specs.Determinants.{AreDeterminants};
 ghost use Rattle.slope_test.specs.Marks.{SlopesPass};
 ghost use Rattle.slope_test.specs.Named.{named, slopes_over};
 
+use crate::determinants::Determinants;
 use crate::marks::Marks;
 use crate::slope::{one_slope, squared};
 use crate::tally::{Tally, passes};
 use fix_interval::{Iv, Iv64};
-use geom_inverse::{Row, Sym4, adjugate, det_64, det_without, gram_of_sums, sums};
+use geom_inverse::{Row, Sym4, adjugate, gram_of_sums, sums};
 use raim_model::{Cmp, Verdict, Why};
 use slope_laws::{Outcome, Shift};
 
@@ -57,6 +59,7 @@ fn slope_told(
     determinant: Iv64,
     kappa: Iv,
     known: &mut Marks,
+    dets: &mut Determinants,
 ) -> Outcome
     requires few { length rows.now ≤ 32 }
     requires place { i < length rows.now }
@@ -65,13 +68,15 @@ fn slope_told(
     requires adj_small { IsSymWithin adj.now (13 * 2 ^ 52) }
     requires determinant { ends_64 determinant ≡ determinant_of (rows_ends rows.now) }
     requires known { SlopesPass shift (named rows.now) (ends kappa) known.old.places }
+    requires dets { AreDeterminants dets.old (rows_ends rows.now) }
     ensures outcome { (row : Row) → result ≡ outcome_of shift (sym_ends adj.now) (ends_64 determinant) (determinant_of (without i (rows_ends rows.now))) (row_ends (slice_index_or rows.now i row)) (ends kappa) }
     ensures known { SlopesPass shift (named rows.now) (ends kappa) known.new.places }
+    ensures dets { AreDeterminants dets.new (rows_ends rows.now) }
 {
     if known.holds(i) {
         return Outcome::Passes;
     }
-    let less = det_without(all, rows, i);
+    let less = dets.of_all_but(all, rows, i);
     let outcome = slope_at(shift, &rows[i], adj, determinant, less, kappa);
     if passes(outcome) {
         known.add(i);
@@ -88,6 +93,7 @@ fn slopes_told(
     determinant: Iv64,
     kappa: Iv,
     known: &mut Marks,
+    dets: &mut Determinants,
 ) -> Verdict
     requires few { length rows.now ≤ 32 }
     requires all { sym_ends all.now ≡ sums_of (rows_ends rows.now) }
@@ -95,36 +101,42 @@ fn slopes_told(
     requires adj_small { IsSymWithin adj.now (13 * 2 ^ 52) }
     requires determinant { ends_64 determinant ≡ determinant_of (rows_ends rows.now) }
     requires known { SlopesPass shift (named rows.now) (ends kappa) known.old.places }
+    requires dets { AreDeterminants dets.old (rows_ends rows.now) }
     ensures value { result ≡ slopes_of (slopes_over shift rows.now (ends kappa)) (removals (named rows.now)) }
     ensures known { SlopesPass shift (named rows.now) (ends kappa) known.new.places }
+    ensures dets { AreDeterminants dets.new (rows_ends rows.now) }
 {
     let mut tally = Tally::new();
     for i in 0..rows.len() {
-        let outcome = slope_told(shift, rows, i, all, adj, determinant, kappa, known);
+        let outcome = slope_told(shift, rows, i, all, adj, determinant, kappa, known, dets);
         tally = tally.with(rows[i].prn, outcome);
     }
     tally.verdict()
 }
 
-/// The answer of `detect`, where the sums over the rows are at hand.
+/// The answer of `detect`, where the sums over the rows are at hand, and perhaps some determinants. Those that are worked out are
+/// known then.
 pub fn detect_by_sums(
     shift: Shift,
     rows: &[Row],
     all: &Sym4,
     kappa: Iv,
     known: &mut Marks,
+    dets: &mut Determinants,
 ) -> Verdict
     requires few { length rows.now ≤ 32 }
     requires all { sym_ends all.now ≡ sums_of (rows_ends rows.now) }
     requires known { SlopesPass shift (named rows.now) (ends kappa) known.old.places }
+    requires dets { AreDeterminants dets.old (rows_ends rows.now) }
     ensures exact { result ≡ detect_of shift (named rows.now) (ends kappa) }
     ensures known { SlopesPass shift (named rows.now) (ends kappa) known.new.places }
+    ensures dets { AreDeterminants dets.new (rows_ends rows.now) }
 {
     if rows.len() < 5 {
         return Verdict::Unavailable(Why::Few);
     }
     let gram = gram_of_sums(all, rows);
-    let determinant = det_64(&gram);
+    let determinant = dets.of_all(&gram);
     if determinant.hi < LEAST {
         return Verdict::Unavailable(Why::Singular);
     }
@@ -132,7 +144,7 @@ pub fn detect_by_sums(
         return Verdict::Undecided(Cmp::Det);
     }
     let adj = adjugate(&gram);
-    slopes_told(shift, rows, all, &adj, determinant, kappa, known)
+    slopes_told(shift, rows, all, &adj, determinant, kappa, known, dets)
 }
 
 /// The test of a list of at most 32 rows, in rising PRN, for fault detection: whether the geometry is regular and each squared
@@ -153,5 +165,6 @@ pub fn detect(shift: Shift, rows: &[Row], kappa: Iv, known: &mut Marks) -> Verdi
     ensures few { result ≡ Verdict.Unavailable Few ↔ length rows.now < 5 }
 {
     let all = sums(rows);
-    detect_by_sums(shift, rows, &all, kappa, known)
+    let mut dets = Determinants::none();
+    detect_by_sums(shift, rows, &all, kappa, known, &mut dets)
 }

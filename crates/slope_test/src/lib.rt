@@ -4,9 +4,11 @@
 #![tactic(auto)]
 
 mod detection;
+mod determinants;
 mod marks;
 mod slope;
 mod tally;
 
 pub use detection::{detect, detect_by_sums};
+pub use determinants::Determinants;
 pub use marks::Marks;

@@ -2,6 +2,7 @@ use Rattle.std.proofs.Common.{sym, subst, ◌∙◌}
 use Rattle.std.specs.Prelude.{false}
 use Rattle.raim_model.specs.PointVerdict.{reason_of}
 use Rattle.fix_interval.specs.Intervals.{ends}
+use Rattle.geom_inverse.specs.Views.{rows_ends}
 use Rattle.slope_laws.specs.ShiftSlopes.{squared_shift, slopes_for, detect_of}
 use Rattle.slope_laws.specs.Hold.{Tells, LeavesVerdict}
 use Rattle.slope_laws.proofs.ShiftSlopes.{shift_holds}
@@ -10,6 +11,9 @@ use Rattle.slope_laws.proofs.Told.{detect_reason}
 use Rattle.slope_test.specs.Named.{named}
 use Rattle.slope_test.proofs.Detections.{detect_few, few_below}
 use Rattle.slope_test.proofs.detection.detect.Goals as goal
+
+pub detect_by_sums-requires-clause-dets : goal.detect_by_sums-requires-clause-dets
+detect_by_sums-requires-clause-dets c = c.none-dets.ensures (rows_ends c.args.rows.now)
 
 pub returns-clause-right : goal.returns-clause-right
 returns-clause-right c = λ gs k k_less l m.

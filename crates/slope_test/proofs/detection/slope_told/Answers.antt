@@ -1,7 +1,6 @@
 use Rattle.std.proofs.Common.{sym, ◌∙◌}
 use Rattle.fix_interval.specs.Intervals.{ends, ends_64}
-use Rattle.geom_inverse.specs.Views.{rows_ends, sym_ends}
-use Rattle.slope_test.proofs.Detections.{less_determinant}
+use Rattle.geom_inverse.specs.Views.{sym_ends}
 use Rattle.slope_test.proofs.MarkLemmas.{marked_passes, worked_out, marks_more}
 use Rattle.slope_test.proofs.detection.slope_told.Goals as goal
 
@@ -11,13 +10,13 @@ returns-then-holds-clause-outcome c = λ row.
 
 pub returns-then-passes-clause-outcome : goal.returns-then-passes-clause-outcome
 returns-then-passes-clause-outcome c = λ row.
-    worked_out c.args.shift c.args.rows.now (ends c.args.kappa) c.args.i c.index-rows-i.result row (sym_ends c.args.adj.now) (ends_64 c.args.determinant) (ends_64 c.det_without-less.result) c.slope_at-outcome.result c.slope_at-outcome.ensures (less_determinant (ends_64 c.det_without-less.result) (rows_ends c.args.rows.now) c.args.i c.det_without-less.ensures.exact) c.index-rows-i.is c.requires.place
+    worked_out c.args.shift c.args.rows.now (ends c.args.kappa) c.args.i c.index-rows-i.result row (sym_ends c.args.adj.now) (ends_64 c.args.determinant) (ends_64 c.of_all_but-less.result) c.slope_at-outcome.result c.slope_at-outcome.ensures c.of_all_but-less.ensures.value c.index-rows-i.is c.requires.place
 
 pub returns-then-passes-clause-known : goal.returns-then-passes-clause-known
 returns-then-passes-clause-known c =
     marks_more c.args.shift c.args.rows.now (ends c.args.kappa) c.args.known.now.places c.add.new.self.places c.args.i c.index-rows-i.result (sym_ends c.args.adj.now) (ends_64 c.args.determinant) c.requires.known c.requires.place c.requires.adj c.requires.determinant
-    (sym (worked_out c.args.shift c.args.rows.now (ends c.args.kappa) c.args.i c.index-rows-i.result c.index-rows-i.result (sym_ends c.args.adj.now) (ends_64 c.args.determinant) (ends_64 c.det_without-less.result) c.slope_at-outcome.result c.slope_at-outcome.ensures (less_determinant (ends_64 c.det_without-less.result) (rows_ends c.args.rows.now) c.args.i c.det_without-less.ensures.exact) c.index-rows-i.is c.requires.place) ∙ c.passes.ensures c.if-passes.true) c.add.ensures
+    (sym (worked_out c.args.shift c.args.rows.now (ends c.args.kappa) c.args.i c.index-rows-i.result c.index-rows-i.result (sym_ends c.args.adj.now) (ends_64 c.args.determinant) (ends_64 c.of_all_but-less.result) c.slope_at-outcome.result c.slope_at-outcome.ensures c.of_all_but-less.ensures.value c.index-rows-i.is c.requires.place) ∙ c.passes.ensures c.if-passes.true) c.add.ensures
 
 pub returns-else-passes-clause-outcome : goal.returns-else-passes-clause-outcome
 returns-else-passes-clause-outcome c = λ row.
-    worked_out c.args.shift c.args.rows.now (ends c.args.kappa) c.args.i c.index-rows-i.result row (sym_ends c.args.adj.now) (ends_64 c.args.determinant) (ends_64 c.det_without-less.result) c.slope_at-outcome.result c.slope_at-outcome.ensures (less_determinant (ends_64 c.det_without-less.result) (rows_ends c.args.rows.now) c.args.i c.det_without-less.ensures.exact) c.index-rows-i.is c.requires.place
+    worked_out c.args.shift c.args.rows.now (ends c.args.kappa) c.args.i c.index-rows-i.result row (sym_ends c.args.adj.now) (ends_64 c.args.determinant) (ends_64 c.of_all_but-less.result) c.slope_at-outcome.result c.slope_at-outcome.ensures c.of_all_but-less.ensures.value c.index-rows-i.is c.requires.place

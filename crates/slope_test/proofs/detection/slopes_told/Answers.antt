@@ -11,6 +11,7 @@ pub loop-i-init : goal.loop-i-init
 loop-i-init c = record {
   tally = c.new-tally.ensures (slopes_over c.args.shift c.args.rows.now (ends c.args.kappa));
   known = c.requires.known;
+  dets = c.requires.dets;
 }
 
 pub loop-i-preserved : goal.loop-i-preserved
@@ -20,6 +21,7 @@ loop-i-preserved c =
       tally = tally_more c.args.shift c.args.rows.now (ends c.args.kappa) c.loop-i.i r c.loop-i.tally c.with-tally.result _ c.slope_told-outcome.result (sym_ends c.args.adj.now) (ends_64 c.args.determinant)
           c.loop-i-test.true c.with-tally.ensures refl c.requires.adj c.requires.determinant (c.slope_told-outcome.ensures.outcome r) c.loop-i.invariant.tally;
       known = c.slope_told-outcome.ensures.known;
+      dets = c.slope_told-outcome.ensures.dets;
     }
 
 pub returns-clause-value : goal.returns-clause-value
