@@ -15,14 +15,17 @@ ghost use Rattle.slope_laws.specs.Rows.{NamedRow, NamedRowsLie, NamedRowsInside,
 ghost use Rattle.slope_laws.specs.Subsets.{named_without, first_open};
 ghost use Rattle.slope_laws.specs.ShiftSlopes.{squared_shift, detect_of, exclude_of};
 ghost use Rattle.slope_laws.specs.Hold.{Tells, LeavesVerdict};
+ghost use Rattle.slope_test.specs.Determinants.{AreDeterminants};
 ghost use Rattle.slope_test.specs.Marks.{SlopesPass, ListsPass};
 ghost use Rattle.slope_test.specs.Named.{named, is_pass};
+ghost use Rattle.exclusion_subsets.specs.Pairs.{ArePairs};
 
+use crate::pairs::Pairs;
 use fix_interval::Iv;
 use geom_inverse::{Row, Sym4, sums, sums_less};
 use raim_model::{Cmp, Verdict, Why};
 use slope_laws::Shift;
-use slope_test::{Marks, detect_by_sums};
+use slope_test::{Determinants, Marks, detect_by_sums};
 
 /// The verdict of a list without the satellite `prn`.
 fn name_without(prn: u8, verdict: Verdict) -> Verdict
@@ -44,17 +47,33 @@ fn passes(verdict: Verdict) -> bool
     matches!(verdict, Verdict::Available)
 }
 
-/// The verdict on the list `rest` without the row at place `j`, where the sums over all rows are at hand.
-fn subset(shift: Shift, rows: &[Row], all: &Sym4, j: usize, rest: &[Row], kappa_less: Iv) -> Verdict
+/// The verdict on the list `rest` without the row at place `j`, where the sums over all rows are at hand, and perhaps determinants
+/// of them and of lists without two. Those that are worked out are known then.
+fn subset(
+    shift: Shift,
+    rows: &[Row],
+    all: &Sym4,
+    j: usize,
+    rest: &[Row],
+    kappa_less: Iv,
+    whole: &Determinants,
+    pairs: &mut Pairs,
+) -> Verdict
     requires few { length rows.now ≤ 32 }
     requires place { j < length rows.now }
     requires all { sym_ends all.now ≡ sums_of (rows_ends rows.now) }
     requires rest { rest.now ≡ without j rows.now }
-    ensures { result ≡ detect_of shift (without j (named rows.now)) (ends kappa_less) }
+    requires whole { AreDeterminants whole.now (rows_ends rows.now) }
+    requires pairs { ArePairs pairs.old.places (rows_ends rows.now) }
+    ensures verdict { result ≡ detect_of shift (without j (named rows.now)) (ends kappa_less) }
+    ensures pairs { ArePairs pairs.new.places (rows_ends rows.now) }
 {
     let all_less = sums_less(all, rows, j);
     let mut known = Marks::none();
-    detect_by_sums(shift, rest, &all_less, kappa_less, &mut known)
+    let mut dets = pairs.of_list(whole, j);
+    let verdict = detect_by_sums(shift, rest, &all_less, kappa_less, &mut known, &mut dets);
+    pairs.keep(rest.len(), j, &dets);
+    verdict
 }
 
 /// The same with its name, where it may be known that the list passes; if it does, that is known then.
@@ -66,19 +85,24 @@ fn subset_told(
     rest: &[Row],
     kappa_less: Iv,
     known: &mut Marks,
+    whole: &Determinants,
+    pairs: &mut Pairs,
 ) -> Verdict
     requires few { length rows.now ≤ 32 }
     requires place { j < length rows.now }
     requires all { sym_ends all.now ≡ sums_of (rows_ends rows.now) }
     requires rest { rest.now ≡ without j rows.now }
     requires known { ListsPass shift (named rows.now) (ends kappa_less) known.old.places }
+    requires whole { AreDeterminants whole.now (rows_ends rows.now) }
+    requires pairs { ArePairs pairs.old.places (rows_ends rows.now) }
     ensures verdict { (row : Row) → result ≡ named_without (slice_index_or rows.now j row).prn (detect_of shift (without j (named rows.now)) (ends kappa_less)) }
     ensures known { ListsPass shift (named rows.now) (ends kappa_less) known.new.places }
+    ensures pairs { ArePairs pairs.new.places (rows_ends rows.now) }
 {
     if known.holds(j) {
         return Verdict::Available;
     }
-    let detected = subset(shift, rows, all, j, rest, kappa_less);
+    let detected = subset(shift, rows, all, j, rest, kappa_less, whole, pairs);
     if passes(detected) {
         known.add(j);
     }
@@ -92,11 +116,13 @@ fn subsets_told(
     all: &Sym4,
     kappa_less: Iv,
     known: &mut Marks,
+    whole: &Determinants,
 ) -> Verdict
     requires few { length rows.now ≤ 32 }
     requires some { 1 ≤ length rows.now }
     requires all { sym_ends all.now ≡ sums_of (rows_ends rows.now) }
     requires known { ListsPass shift (named rows.now) (ends kappa_less) known.old.places }
+    requires whole { AreDeterminants whole.now (rows_ends rows.now) }
     ensures value { result ≡ first_open (λ rest. detect_of shift rest (ends kappa_less)) (removals (named rows.now)) }
     ensures known { ListsPass shift (named rows.now) (ends kappa_less) known.new.places }
 {
@@ -105,8 +131,19 @@ fn subsets_told(
     for i in 0..last {
         rest[i] = rows[i + 1];
     }
+    let mut pairs = Pairs::none();
     for j in 0..rows.len() {
-        let verdict = subset_told(shift, rows, all, j, &rest[..last], kappa_less, known);
+        let verdict = subset_told(
+            shift,
+            rows,
+            all,
+            j,
+            &rest[..last],
+            kappa_less,
+            known,
+            whole,
+            &mut pairs,
+        );
         if !passes(verdict) {
             return verdict;
         }
@@ -135,11 +172,12 @@ fn excluded(
         return Verdict::Unavailable(Why::Few);
     }
     let all = sums(rows);
-    let whole = detect_by_sums(shift, rows, &all, kappa, slopes);
+    let mut dets = Determinants::none();
+    let whole = detect_by_sums(shift, rows, &all, kappa, slopes, &mut dets);
     if !passes(whole) {
         return whole;
     }
-    subsets_told(shift, rows, &all, kappa_less, lists)
+    subsets_told(shift, rows, &all, kappa_less, lists, &dets)
 }
 
 /// The test of a list of at most 32 rows, in rising PRN, for fault exclusion: that of `detect` on the whole list under `kappa`, and then

@@ -5,5 +5,6 @@
 #![tactic(auto)]
 
 mod exclusion;
+mod pairs;
 
 pub use exclusion::exclude;

@@ -2,6 +2,7 @@ use Rattle.std.proofs.Common.{◌≡◌, arith, refl, sym, ◌∙◌, length, �
 use Rattle.std.specs.Prelude.{true, false}
 use Rattle.std.proofs.lemmas.List.{length-set}
 use Rattle.fix_interval.specs.Intervals.{ends}
+use Rattle.geom_inverse.specs.Views.{rows_ends}
 use Rattle.slope_test.specs.Named.{is_pass}
 use Rattle.slope_test.proofs.Loops.{subsets_stop, subsets_more, subsets_all}
 use Rattle.exclusion_subsets.proofs.Rests.{rest_is, rest_next}
@@ -15,6 +16,7 @@ loop-j-init c =
       rest = record { low = λ k d p q. absurd (omega (arith, p)); high = λ k d p q. c.loop-i.invariant.rest.high k d p (omega (arith, q, test)) };
       passes = refl;
       known = c.requires.known;
+      pairs = c.none-pairs.ensures (rows_ends c.args.rows.now);
     }
 
 pub subset_told-verdict-requires-clause-rest : goal.subset_told-verdict-requires-clause-rest
@@ -40,6 +42,7 @@ loop-j-preserved c =
       rest = rest_next c.args.rows.now c.loop-j.rest c.loop-j.j (length c.args.rows.now - 1) c.index-rows-j.result c.loop-j.invariant.size (omega arith) c.index-rows-j.is c.loop-j-test.true c.loop-j.invariant.rest;
       passes = subsets_more c.args.shift c.args.rows.now c.loop-j.j c.index-rows-j.result (ends c.args.kappa_less) c.subset_told-verdict.result c.loop-j-test.true (c.subset_told-verdict.ensures.verdict c.index-rows-j.result) f c.loop-j.invariant.passes;
       known = c.subset_told-verdict.ensures.known;
+      pairs = c.subset_told-verdict.ensures.pairs;
     }
 
 pub returns-clause-value : goal.returns-clause-value

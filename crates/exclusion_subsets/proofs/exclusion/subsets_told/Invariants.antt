@@ -4,8 +4,10 @@ use Rattle.raim_model.specs.declared.verdict.Verdict.TheVariants.{Available}
 use Rattle.slope_laws.specs.Rows.{removals}
 use Rattle.slope_laws.specs.Subsets.{first_open}
 use Rattle.slope_laws.specs.ShiftSlopes.{detect_of}
+use Rattle.geom_inverse.specs.Views.{rows_ends}
 use Rattle.slope_test.specs.Marks.{ListsPass}
 use Rattle.slope_test.specs.Named.{named}
+use Rattle.exclusion_subsets.specs.Pairs.{ArePairs}
 use Rattle.exclusion_subsets.proofs.Rests.{IsRest}
 use Rattle.exclusion_subsets.proofs.exclusion.subsets_told.Given as goal
 
@@ -23,4 +25,5 @@ invariant-loop-j l = record {
   rest : IsRest l.rows l.rest l.j (length l.rows - 1);
   passes : first_open (λ rest. detect_of l.shift rest (ends l.kappa_less)) (take l.j (removals (named l.rows))) ≡ Available;
   known : ListsPass l.shift (named l.rows) (ends l.kappa_less) l.known.places;
+  pairs : ArePairs l.pairs.places (rows_ends l.rows);
 }
