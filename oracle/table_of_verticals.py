@@ -1,5 +1,5 @@
 #!/usr/bin/env python3
-"""Prints what the tests of `vert_slope` and the vertical flights of `verdict_cases` expect: the vertical tests of satellites on the
+"""Prints what the vertical slopes of `slope_cases` and the vertical flights of `verdict_cases` expect: the vertical tests of satellites on the
 axes, worked out by `geometry.py`, and the runs of small flights, each of whose milliseconds is judged by itself, by `verdicts.py`. It
 takes some minutes.
 
