@@ -84,5 +84,5 @@ answers_knowing alert c hidden first last p ordered k Split a = (a.0, open_ (is_
     open_ true e = absurd (let s = verdict_sharper alert c hidden first last p ordered k e in let q : true ≡ false = sym e ∙ ap is_certain (sym s) ∙ a.1 in cc)
 answers_knowing alert c hidden first last p ordered k (Decided d) a = (
   record { each = λ t low high. knowing_at alert c hidden first last p ordered k a.1 t low (omega (arith, ints)) ∙ sym a.0 },
-  λ lt. ap is_certain a.0 ∙ certain_or_one (verdict_knowing alert c hidden first last) first last a.1 lt
+  λ lt. ap is_certain a.0 ∙ certain_or_one (verdict_knowing alert c hidden first last) first last a.1 lt,
 )

@@ -79,17 +79,21 @@ module _ (c : Case) (i : IsCase c) (first last : ℤ) (p : InRootPiece c first l
   knowing_sharper places ordered k (rec ∷ recs) h =
       let m : IsListed c rec = listed_in_force c i first rec h.0 in
       let o : first ≤ℤ first = omega (arith, ints) in
-      let e : last ≤ℤ last = omega (arith, ints) in
-      (sharper (is_marked places rec) (sight_over c rec first last) (sight_over c rec first first) (sight_over c rec first last) ((sights_hold c i).isotone first last first last p o ordered e rec m) refl (λ b. k rec h.0 b first o ordered)
-       ((sights_hold c i).isotone first last first first p o o ordered rec m), knowing_sharper places ordered k recs h.1)
+      let e : last ≤ℤ last = omega (arith, ints) in (
+        sharper (is_marked places rec) (sight_over c rec first last) (sight_over c rec first first) (sight_over c rec first last) ((sights_hold c i).isotone first last first last p o ordered e rec m) refl (λ b. k rec h.0 b first o ordered)
+            ((sights_hold c i).isotone first last first first p o o ordered rec m),
+        knowing_sharper places ordered k recs h.1,
+      )
 
   -- and they are left to those of each millisecond
   knowing_single : (places : List Bool) (t : ℤ) → first ≤ℤ t → t ≤ℤ last → KnowsHidden c places first last → (recs : List AlmRecord) → AllByRecursion (λ rec. Contains (in_force first c.almanacs) rec) recs
       → AllLeave (λ rec. sight_knowing c places rec first last) (λ rec. sight_over c rec t t) recs
   knowing_single places t low high k [] h = tt
-  knowing_single places t low high k (rec ∷ recs) h =
-      (single (is_marked places rec) (sight_over c rec first last) (sight_over c rec t t) (λ b. k rec h.0 b t low high)
-       ((sights_hold c i).isotone first last t t p low (omega (arith, ints)) high rec (listed_in_force c i first rec h.0)), knowing_single places t low high k recs h.1)
+  knowing_single places t low high k (rec ∷ recs) h = (
+    single (is_marked places rec) (sight_over c rec first last) (sight_over c rec t t) (λ b. k rec h.0 b t low high)
+        ((sights_hold c i).isotone first last t t p low (omega (arith, ints)) high rec (listed_in_force c i first rec h.0)),
+    knowing_single places t low high k recs h.1,
+  )
 
 -- where none straddles over a piece, the same are visible over each piece inside
 pub knowing_inside : (c : Case) (places : List Bool) (first last a b : ℤ) → MayBeJudged c first last → first ≤ℤ a → a ≤ℤ b → b ≤ℤ last
