@@ -27,7 +27,7 @@ use Rattle.case_laws.proofs.Forecasts.{forecast}
 use Rattle.piece_verdict.specs.Cases.{case_of}
 use Rattle.piece_verdict.specs.declared.Alert.{Alert}
 use Rattle.piece_verdict.specs.Alerts.{MayBeJudgedAgainst}
-use Rattle.piece_verdict.specs.CaseLaws.{some_limit}
+use Rattle.piece_verdict.specs.AlertLaws.{some_limit}
 use Rattle.flight_forecast.specs.Alerts.{IsAlert, shift_of, limit_of, verdict_against, HasVerdictAgainst, IsForecastAgainst}
 
 -- what splitting the flight of a case says
